@@ -1,0 +1,7 @@
+use borrow.Author.Needs.{needs}
+use Rattle.records.specs.Records.{recKind}
+use Rattle.records.proofs.view.rec_kind.Needs as need
+
+pub returns : need.returns
+unfolding recKind
+returns c = search needs

@@ -1,0 +1,4 @@
+pub mod Kinds
+pub mod Bytes
+pub mod Records
+pub mod Trees

@@ -1,0 +1,31 @@
+// The records of a script file: what its bytes say, one record at a time, and the tree that they make.
+mod bytes;
+mod kind;
+mod opened;
+mod record;
+mod view;
+
+pub use bytes::HEADER_SIZE;
+pub use bytes::Header;
+pub use bytes::MOST_BYTES;
+pub use bytes::MOST_RECORDS;
+pub use bytes::MOST_TEXT;
+pub use bytes::RECORD_SIZE;
+pub use bytes::Rec;
+pub use bytes::fetch;
+pub use bytes::open;
+pub use kind::About;
+pub use kind::BinaryOp;
+pub use kind::Class;
+pub use kind::Form;
+pub use kind::Kind;
+pub use kind::UnaryOp;
+pub use opened::Opened;
+pub use record::Kinded;
+pub use record::Node;
+pub use record::Record;
+pub use record::Shape;
+pub use view::links_up;
+pub use view::listed_kind;
+pub use view::rec_kind;
+pub use view::text_fits;

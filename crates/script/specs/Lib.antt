@@ -1,0 +1,5 @@
+pub mod Verdict
+pub mod Stages
+pub mod Trees
+pub mod Depths
+pub mod Judged

@@ -2,7 +2,7 @@
 // fault gets its number, the record that it is found at and its layer.
 ghost use mathlib.Core.Path.{_≡_};
 ghost use Rattle.faults.specs.declared.CheckFault.the-variants.{File};
-ghost use Rattle.faults.specs.Numbers.{inFile, fileNamed, checkNamed};
+ghost use Rattle.faults.specs.Numbers.{inFile, inCheck, fileNamed, checkNamed};
 
 // The layer of the unit that found a fault.
 #[derive(Clone, Copy, Debug)]
@@ -55,6 +55,16 @@ fn in_file(number: u8, at: u16) -> Named
     }
 }
 
+fn in_check(number: u8, at: u16) -> Named
+    ensures { λ r. ⌜ r ≡ inCheck number at ⌝ }
+{
+    Named {
+        number,
+        at,
+        layer: Layer::Check,
+    }
+}
+
 impl FileFault {
     pub fn named(self) -> Named
         ensures { λ r. ⌜ r ≡ fileNamed self ⌝ }
@@ -79,6 +89,36 @@ impl FileFault {
 pub enum CheckFault {
     // the file cannot be read: the reader's fault, whole
     File(FileFault),
+    // no such name
+    Undeclared(u16),
+    // already declared in this scope, list or struct
+    Again(u16),
+    // a name of another sort is needed
+    WrongSort(u16),
+    // types differ
+    Differs(u16),
+    // the type is not one that is taken here
+    NotTaken(u16),
+    // a call without a result where a value is needed
+    NoValue(u16),
+    // counts differ
+    Counts(u16),
+    // no such field
+    NoField(u16),
+    // nothing can be stored here
+    NotAssignable(u16),
+    // a short declaration of no new name
+    NothingNew(u16),
+    // a path without a return
+    NoReturn(u16),
+    // break or continue outside a loop
+    NoLoop(u16),
+    // a type of too many cells
+    Wide(u16),
+    // too many entries in the type table
+    Entries(u16),
+    // too many names in scope
+    Names(u16),
 }
 
 impl CheckFault {
@@ -87,6 +127,21 @@ impl CheckFault {
     {
         match self {
             CheckFault::File(fault) => fault.named(),
+            CheckFault::Undeclared(at) => in_check(11, at),
+            CheckFault::Again(at) => in_check(12, at),
+            CheckFault::WrongSort(at) => in_check(13, at),
+            CheckFault::Differs(at) => in_check(14, at),
+            CheckFault::NotTaken(at) => in_check(15, at),
+            CheckFault::NoValue(at) => in_check(16, at),
+            CheckFault::Counts(at) => in_check(17, at),
+            CheckFault::NoField(at) => in_check(18, at),
+            CheckFault::NotAssignable(at) => in_check(19, at),
+            CheckFault::NothingNew(at) => in_check(20, at),
+            CheckFault::NoReturn(at) => in_check(21, at),
+            CheckFault::NoLoop(at) => in_check(22, at),
+            CheckFault::Wide(at) => in_check(23, at),
+            CheckFault::Entries(at) => in_check(24, at),
+            CheckFault::Names(at) => in_check(25, at),
         }
     }
 }

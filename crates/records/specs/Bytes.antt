@@ -45,5 +45,9 @@ recAt f r = record {
 abbrev pub textStart : List ℕ → ℕ
 textStart f = 6 + 20 * count f
 
+-- bytes of the text: so many from a place on, or as many as there are
+abbrev pub textAt : List ℕ → ℕ → ℕ → List ℕ
+textAt f at len = take len (drop (textStart f + at) f)
+
 abbrev pub partOf : List ℕ → Rec → List ℕ
-partOf f rec = take (rec .len) (drop (textStart f + rec .at) f)
+partOf f rec = textAt f (rec .at) (rec .len)

@@ -10,6 +10,9 @@ pub const MOST_RECORDS: u16 = 2047;
 
 pub const MOST_TEXT: u32 = 16384;
 
+// Records count from 1, so an array with a slot for each has one more.
+pub const RECORD_SLOTS: usize = 2048;
+
 pub const HEADER_SIZE: usize = 6;
 
 pub const RECORD_SIZE: usize = 20;

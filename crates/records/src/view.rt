@@ -45,10 +45,17 @@ fn value_fits(form: Form, value: i64) -> bool
     }
 }
 
-pub fn rec_kind(rec: Rec) -> Option<Kind>
+fn kind_in(rec: Rec) -> Option<Kind>
     ensures { λ o. ⌜ o ≡ recKind rec ⌝ }
 {
     Kind::of(rec.kind, rec.op)
+}
+
+// The kind that a record's number and operator stand for.
+pub fn rec_kind(rec: Rec) -> Option<Kind>
+    ensures { λ o. ⌜ o ≡ recKind rec ⌝ }
+{
+    kind_in(rec)
 }
 
 // The kind of a record, where its kind, operator and rune are listed.

@@ -13,6 +13,7 @@ use crate::grammar::Sort;
 use crate::grammar::fills_lists;
 use records::Kind;
 use records::Opened;
+use records::RECORD_SLOTS;
 use records::Shape;
 
 // Whether each record of the chain that begins at `first` is of the sort.
@@ -134,7 +135,7 @@ fn children_listed(s: Opened, r: u16, full: &[bool]) -> bool
 pub fn bad_children(s: Opened) -> Option<u16>
     ensures { λ o. ⌜ First (childrenFit (now (s .entry .file))) 1 (s .entry .n) o ⌝ }
 {
-    let mut full = [false; 2048];
+    let mut full = [false; RECORD_SLOTS];
     mark_lists(s, &mut full);
     for r in 1..=s.n {
         if !children_listed(s, r, &full) {

@@ -8,6 +8,7 @@ ghost use Rattle.rules.specs.Links.{AllLeadUp};
 ghost use Rattle.rules.specs.Depths.{mostDepth, shallow, deepened, passed};
 use crate::links::leading;
 use records::Opened;
+use records::RECORD_SLOTS;
 
 pub const MOST_DEPTH: u8 = 64;
 
@@ -46,7 +47,7 @@ pub fn too_deep(s: Opened) -> Option<u16>
     requires { ⌜ AllLeadUp (now (s .file)) (s .n) ⌝ }
     ensures { λ o. ⌜ First (shallow (now (s .entry .file))) 1 (s .entry .n) o ⌝ }
 {
-    let mut depths = [0u8; 2048];
+    let mut depths = [0u8; RECORD_SLOTS];
     depths[1] = 1;
     for r in 0..s.n {
         if deep(depths[r as usize + 1]) {

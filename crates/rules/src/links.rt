@@ -5,6 +5,7 @@ ghost use lib.ListN.{length, getD};
 ghost use Rattle.rules.specs.First.{First};
 ghost use Rattle.rules.specs.Links.{leadUp, AllLeadUp, Leads, linksTo, linkedOnce, counted};
 use records::Opened;
+use records::RECORD_SLOTS;
 use records::Rec;
 use records::links_up;
 
@@ -57,7 +58,7 @@ pub fn not_once(s: Opened) -> Option<u16>
     requires { ⌜ AllLeadUp (now (s .file)) (s .n) ⌝ }
     ensures { λ o. ⌜ First (linkedOnce (now (s .entry .file))) 2 (s .entry .n) o ⌝ }
 {
-    let mut counts = [0u8; 2048];
+    let mut counts = [0u8; RECORD_SLOTS];
     count_links(s, &mut counts);
     for r in 2..=s.n {
         if counts[r as usize] != 1 {

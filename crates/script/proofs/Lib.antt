@@ -5,3 +5,4 @@ pub mod Once
 pub mod WellFormed
 pub mod Walks
 pub mod Depths
+mod Sampled

@@ -19,7 +19,7 @@ use Rattle.records.specs.Trees.{none, treeAt}
 use Rattle.records.proofs.Grows.{tree-none, tree-step, cases-option, said-up}
 use Rattle.records.proofs.Views.{said-is}
 use Rattle.script.specs.Verdict.{Readable}
-use Rattle.script.specs.Trees.{Told}
+use Rattle.script.specs.Trees.{Known}
 use Rattle.script.proofs.Bared.{inside-is, formed-at}
 use Rattle.script.proofs.Once.{listed-is, linked-at}
 
@@ -59,8 +59,8 @@ module _ (f : List ℕ) (h : Header) (p : Readable f h) (r : ℕ) (a : 1 ≤ r) 
   spoken : (rec : Rec) (k : Kind) → rec ≡ recAt f r → Some k ≡ recKind rec → sayBy f (textSize f) rec (listedKind rec) ≡ Some (sayForm f rec k (about k .form))
   spoken rec k e d = rw (kind-is rec k e d, text-in (textSize f) rec k refl e d)
 
-  pub told : (n t : ℕ) (rec : Rec) (k : Kind) → n ≡ count f → t ≡ textSize f → rec ≡ recAt f r → Some k ≡ recKind rec → Told f n t r (record { rec = rec; kind = k })
-  told n t rec k en et e d =
+  pub known : (n t : ℕ) (rec : Rec) (k : Kind) → n ≡ count f → t ≡ textSize f → rec ≡ recAt f r → Some k ≡ recKind rec → Known f n t r (record { rec = rec; kind = k })
+  known n t rec k en et e d =
       let l = linked-at f h p r a (omega (arith, p .heads .records-are)) in
       let said : Said = sayForm f rec k (about k .form) in
       let q : saidAt f r ≡ Some said = said-is f (textSize f) r rec refl l e ∙ spoken rec k e d in

@@ -3,3 +3,4 @@ pub mod Stages
 pub mod Trees
 pub mod Depths
 pub mod Judged
+pub mod Samples

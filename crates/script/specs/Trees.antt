@@ -45,7 +45,7 @@ pub record Stands (f : List ℕ) (n r : ℕ) (nd : Node) : Type 0 where
   pub listed : formed (treeAt f r) ≡ true
 
 -- the same before what the record holds is taken from the text: that lies inside
-pub record Told (f : List ℕ) (n t r : ℕ) (k : Kinded) : Type 0 where
+pub record Known (f : List ℕ) (n t r : ℕ) (k : Kinded) : Type 0 where
   pub inside : textFits t (k .rec) (about (k .kind) .form) ≡ true
   pub step : Step (treeAt f) n r (sayForm f (k .rec) (k .kind) (about (k .kind) .form)) (k .rec .first) (k .rec .next)
   pub listed : formed (treeAt f r) ≡ true

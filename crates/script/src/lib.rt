@@ -6,6 +6,7 @@ ghost use Rattle.script.specs.Judged.{Judged};
 ghost use Rattle.script.specs.Verdict.{lentFor, Verdict, OnlyVerdict, Readable};
 ghost use Rattle.script.specs.Trees.{WellFormed};
 ghost use Rattle.script.specs.Depths.{OneWay, DepthLaw};
+ghost use Rattle.script.specs.Samples.{Samples};
 
 mod script;
 mod walk;
@@ -72,3 +73,8 @@ pub fn read(file: &[u8], lent: Lengths) -> Result<Header, FileFault>
 {
     judge(file, lent)
 }
+
+// Some file can be read, and some cannot.
+pub fn samples_stand()
+    ensures { λ _. ⌜ Samples ⌝ }
+{}

@@ -2,7 +2,7 @@
 ghost use mathlib.Core.Path.{_≡_};
 ghost use Prim.Native.Nat.{_≤_};
 ghost use Rattle.script.specs.Verdict.{Readable};
-ghost use Rattle.script.specs.Trees.{At, Told};
+ghost use Rattle.script.specs.Trees.{At, Known};
 use crate::script::Script;
 use records::Header;
 use records::Kinded;
@@ -24,7 +24,7 @@ impl<'a> Script<'a> {
     fn kinded(self, r: u16) -> Kinded
         requires from { ⌜ 1 ≤ r ⌝ }
         requires within { ⌜ r ≤ self .over .n ⌝ }
-        ensures { λ k. ⌜ Told (now (self .entry .over .file)) (self .entry .over .n) (self .entry .over .t) r k ⌝ }
+        ensures { λ k. ⌜ Known (now (self .entry .over .file)) (self .entry .over .n) (self .entry .over .t) r k ⌝ }
     {
         let rec = self.over.fields(r);
         let Some(kind) = rec_kind(rec) else {

@@ -3,6 +3,7 @@ ghost use mathlib.Core.Path.{_≡_};
 ghost use mathlib.Core.Bool.{cond};
 ghost use lib.Dec.{ltb};
 ghost use Rattle.summary.specs.Summaries.{Deepest};
+use records::RECORD_SLOTS;
 use rules::pass_depth;
 use script::Script;
 
@@ -24,7 +25,7 @@ fn deeper(one: Place, two: Place) -> Place
 pub fn deepest_place(s: Script) -> Place
     ensures { λ p. ⌜ Deepest (now (s .entry .over .file)) (s .entry .over .n) (p .at) (p .depth) ⌝ }
 {
-    let mut depths = [0u8; 2048];
+    let mut depths = [0u8; RECORD_SLOTS];
     depths[1] = 1;
     let mut best = Place { at: 1, depth: 1 };
     for r in 0..s.over.n {

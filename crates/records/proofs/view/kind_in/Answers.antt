@@ -1,6 +1,6 @@
 use borrow.Author.Needs.{needs}
 use Rattle.records.specs.Records.{recKind}
-use Rattle.records.proofs.view.rec_kind.Needs as need
+use Rattle.records.proofs.view.kind_in.Needs as need
 
 pub returns : need.returns
 unfolding recKind

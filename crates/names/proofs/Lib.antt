@@ -1,0 +1,2 @@
+mod Seeks
+pub mod Laws

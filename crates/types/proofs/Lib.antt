@@ -1,0 +1,2 @@
+mod Compares
+mod Finds

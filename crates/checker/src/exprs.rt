@@ -11,21 +11,16 @@ use faults::CheckFault;
 use names::Meaning;
 use records::BinaryOp;
 use records::UnaryOp;
+use types::BOOL_TYPE;
 use types::Entry;
+use types::HOME_CONSTANT;
+use types::HOME_GLOBAL;
+use types::HOME_LOCAL;
+use types::INT_TYPE;
 use types::Note;
 use types::Shape;
 use types::comparable;
 use types::shape_of;
-
-const INT_TYPE: u16 = 1;
-
-const BOOL_TYPE: u16 = 2;
-// Where a name is at home.
-const HOME_GLOBAL: u8 = 1;
-
-const HOME_LOCAL: u8 = 2;
-
-const HOME_CONSTANT: u8 = 4;
 
 // Writes the note of the record `r`, which counts from 1.
 fn put_note(notes: &mut [Note], r: u16, note: Note)

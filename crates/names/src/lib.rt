@@ -1,6 +1,5 @@
 // The names in scope while a script is checked. They stand in a list of slots that the caller lends, beside a mark
 // that says how many are in use.
-mod block;
 mod name;
 mod scope;
 mod seek;

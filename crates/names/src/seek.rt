@@ -12,7 +12,7 @@ use records::RECORD_SIZE;
 use script::Script;
 
 // The bytes of a name, as many of them as the file has.
-pub(super) fn word_of<'a>(script: Script<'a>, name: Name) -> &'a [u8]
+fn word_of<'a>(script: Script<'a>, name: Name) -> &'a [u8]
     ensures { λ r. ⌜ now r ≡ wordOf (now (script .entry .over .file)) name ⌝ }
 {
     let file = script.over.file;

@@ -8,7 +8,7 @@ use lib.Dec.{eqb, leb, ltb}
 use Rattle.std.specs.shelf.Text.{sameBytes}
 use Rattle.std.specs.declared.option.Option.{Option}
 use Rattle.std.specs.declared.option.Option.the-variants.{Some, None}
-use Rattle.records.specs.Bytes.{textStart}
+use Rattle.records.specs.Bytes.{textAt}
 use Rattle.types.specs.declared.Note.{Note}
 use Rattle.types.specs.declared.Entry.{Entry}
 use Rattle.types.specs.declared.Shape.{Shape}
@@ -72,9 +72,9 @@ mostCells = 64
 abbrev pub mostEntries : ℕ
 mostEntries = 2304
 
--- the entry of a type's number
+-- the entry of a type's number; 0 is the number of none
 abbrev pub entryAt : List Entry → ℕ → Entry
-entryAt table t = getD table (t - 1) noEntry
+entryAt table t = cond (eqb t 0) noEntry (getD table (t - 1) noEntry)
 
 abbrev pub cellsOf : List Entry → ℕ → ℕ
 cellsOf table t = entryAt table t .cells
@@ -97,10 +97,6 @@ pub record Field : Type 0 where
   pub at : ℕ
   pub len : ℕ
   pub ty : ℕ
-
--- bytes of the file's text
-abbrev pub textAt : List ℕ → ℕ → ℕ → List ℕ
-textAt f at len = take len (drop (textStart f + at) f)
 
 abbrev pub fieldWord : List ℕ → Field → List ℕ
 fieldWord f x = textAt f (x .at) (x .len)

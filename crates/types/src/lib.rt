@@ -47,3 +47,15 @@ pub enum Shape {
     Struct(u16),
     Other,
 }
+
+// The numbers of the predeclared types that the rules of expressions name.
+pub const INT_TYPE: u16 = 1;
+
+pub const BOOL_TYPE: u16 = 2;
+
+// Where a name is at home: among the globals, in its function, or as true or false.
+pub const HOME_GLOBAL: u8 = 1;
+
+pub const HOME_LOCAL: u8 = 2;
+
+pub const HOME_CONSTANT: u8 = 4;

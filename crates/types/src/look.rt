@@ -28,11 +28,14 @@ pub const STRUCT: u8 = 6;
 
 pub const FIELD: u8 = 7;
 
-// The entry of a type's number, or NO_ENTRY where there is none. The number 0 reads as 1.
+// The entry of a type's number, or NO_ENTRY where there is none.
 pub fn entry_at(table: &[Entry], t: u16) -> Entry
     ensures { λ e. ⌜ e ≡ entryAt (now (table .entry)) t ⌝ }
 {
-    let i = t.saturating_sub(1) as usize;
+    if t == 0 {
+        return NO_ENTRY;
+    }
+    let i = t as usize - 1;
     if i < table.len() { table[i] } else { NO_ENTRY }
 }
 

@@ -1,5 +1,7 @@
 // Reads script files from standard input, one a line in hexadecimal (`-` is the empty file), and writes the verdict on
 // each as one line. A line that is no hexadecimal text gets `no file`.
+#![tactic(auto)]
+
 ghost use Rattle.std.specs.Prelude.{◌≡◌, ◌≤◌, length, IfSome};
 ghost use Rattle.check_vectors.specs.Lines.{FileOf};
 

@@ -1,5 +1,7 @@
 // The check of a script: names, scopes, types and notes. All definitions stand in specs/; of the code, what an
 // expression needs of the types of its parts.
+#![tactic(auto)]
+
 ghost use Rattle.checker.specs.Examples.{Examples};
 
 mod exprs;

@@ -1,5 +1,7 @@
 // What the unit answers when it turns something down: the faults of each layer, and the one place where a
 // fault gets its number, the record that it is found at and its layer.
+#![tactic(auto)]
+
 ghost use Rattle.std.specs.Prelude.{◌≡◌};
 ghost use Rattle.faults.specs.declared.CheckFault.TheVariants.{File};
 ghost use Rattle.faults.specs.Numbers.{in_file, in_check, file_named, check_named};

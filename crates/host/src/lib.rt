@@ -1,4 +1,6 @@
 // What the programs share: reading standard input and hexadecimal text.
+#![tactic(auto)]
+
 ghost use Rattle.std.specs.Prelude.{◌≡◌, ◌+◌, ◌*◌, ◌<◌, ◌≤◌, length, IfOk};
 ghost use Rattle.host.specs.Hex.{digit_of, PairAt, Unhexed};
 

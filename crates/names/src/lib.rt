@@ -1,5 +1,7 @@
 // The names in scope while a script is checked. They stand in a list of slots that the caller lends, beside a mark
 // that says how many are in use.
+#![tactic(auto)]
+
 mod name;
 mod scope;
 mod seek;

@@ -1,4 +1,6 @@
 // The records of a script file: what its bytes say, one record at a time, and the tree that they make.
+#![tactic(auto)]
+
 mod bytes;
 mod kind;
 mod opened;

@@ -1,4 +1,6 @@
 // The lines of text that the programs write. A line is made in a fixed array, so nothing here allocates.
+#![tactic(auto)]
+
 mod line;
 mod verdict;
 mod write;

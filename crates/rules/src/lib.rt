@@ -1,4 +1,6 @@
 // The rules that the records of a file are held to: links, depth, kinds, children and text.
+#![tactic(auto)]
+
 ghost use Rattle.rules.specs.Rules.{RecordsVerdict};
 
 mod children;

@@ -1,4 +1,6 @@
 // The reader of script files: the ten rules that a file is held to before anything else looks at it.
+#![tactic(auto)]
+
 ghost use Rattle.std.specs.Prelude.{◌≡◌, IfOk};
 ghost use Rattle.script.specs.Stages.{Stages};
 ghost use Rattle.script.specs.Judged.{Judged};

@@ -1,4 +1,6 @@
 // Reads a script file from standard input and writes the verdict on it as one line.
+#![tactic(auto)]
+
 use host::fill;
 use records::MOST_BYTES;
 use script::ENOUGH;

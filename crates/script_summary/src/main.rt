@@ -1,5 +1,7 @@
 // Reads a script file from standard input and writes the reader's verdict and, where the file can be read, its
 // summary.
+#![tactic(auto)]
+
 ghost use Rattle.script_summary.specs.Answers.{Looked, Answers};
 
 use faults::{CheckFault, FileFault};

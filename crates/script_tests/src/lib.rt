@@ -1,4 +1,6 @@
 // Tests of the reader on files made here: each refusal, the order of refusals, and the view of one record.
+#![tactic(auto)]
+
 use faults::CheckFault;
 use records::Rec;
 use script::{ENOUGH, Lengths};

@@ -1,6 +1,6 @@
 -- A stack as its callers see it.
 use Rattle.std.specs.Prelude.{◌≡◌, ℕ, ◌<◌, ◌≤◌, List, ◌++◌, length, take, drop}
-use Rattle.std.specs.Borrow.{Bor}
+use Rattle.std.specs.Borrow.{MutBor}
 use Rattle.stack.specs.declared.stack.Stack.{Stack}
 
 -- the items in use, lowest first
@@ -20,7 +20,7 @@ abbrev pub lent : {T : Type 0} → Stack T → ℕ
 lent s = s.items.ghost_name
 
 -- a stack over the slice r as it is, with the items xs in use and ys past them
-pub record Over {T : Type 0} (r : Bor (List T)) (xs ys : List T) (s : Stack T) : Type 0 where
+pub record Over {T : Type 0} (r : MutBor (List T)) (xs ys : List T) (s : Stack T) : Type 0 where
   pub in_use : used s ≡ xs
   pub beyond : past s ≡ ys
   pub slice : s.items ≡ r

@@ -1,5 +1,7 @@
 // What a script file that has been read amounts to: how many records and kinds of records it has, how deep they
 // go and how much text there is.
+#![tactic(auto)]
+
 ghost use Rattle.summary.specs.Summaries.{Summarizes};
 
 mod deepest;

@@ -1,4 +1,6 @@
 // The type table and the notes: what a check leaves for a run.
+#![tactic(auto)]
+
 mod classes;
 mod fields;
 mod look;

@@ -1,4 +1,6 @@
 // The public calls of the script unit, and what the programs say of their answers.
+#![tactic(auto)]
+
 ghost use Rattle.std.specs.Prelude.{◌≡◌};
 ghost use Rattle.report.specs.Lines.{written};
 ghost use Rattle.unit.specs.Answers.{CheckVerdict, Told};

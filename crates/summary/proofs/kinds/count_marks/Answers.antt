@@ -9,6 +9,6 @@ loop-mark-init c = (sym (passing_none _), omega arith)
 pub loop-mark-preserved : goal.loop-mark-preserved
 loop-mark-preserved c =
     elim c.if-mark.branch [
-      | then-mark w ↦ counted_more c.args.seen.now c.loop-mark.mark-index c.loop-mark.count c.if-mark.count true w.if-mark.true w.count_is c.loop-mark.invariant
-      | else-mark w ↦ counted_more c.args.seen.now c.loop-mark.mark-index c.loop-mark.count c.if-mark.count false w.if-mark.false (omega (arith, w.count_is)) c.loop-mark.invariant
+      | then-mark w ↦ counted_more c.args.seen.now c.loop-mark.mark-index c.loop-mark.count c.if-mark.count true w.if-mark.true w.count-is c.loop-mark.invariant
+      | else-mark w ↦ counted_more c.args.seen.now c.loop-mark.mark-index c.loop-mark.count c.if-mark.count false w.if-mark.false (omega (arith, w.count-is)) c.loop-mark.invariant
     ]

@@ -3,8 +3,8 @@ use Rattle.types.specs.Table.{comparable_by}
 use Rattle.types.proofs.Compares.{of_struct, of_base, field_yes, field_no, fields_end}
 use Rattle.types.proofs.fields.+comparable_within.Goals as goal
 
-pub returns-in-default : goal.returns-in-default
-returns-in-default t c = c.is_base.ensures ∙ of_base c.args.table.now c.args.most c.args.t _ (omega arith) c.shape_of-shape.ensures c.in-default.not-Struct
+pub returns-in_default : goal.returns-in_default
+returns-in_default t c = c.is_base.ensures ∙ of_base c.args.table.now c.args.most c.args.t _ (omega arith) c.shape_of-shape.ensures c.in_default.not-Struct
 
 pub returns-then-not-comparable_within : goal.returns-then-not-comparable_within
 returns-then-not-comparable_within t c =

@@ -15,7 +15,7 @@ readable s = record {
 }
 
 pub unreachable-requires : goal.unreachable-requires
-unreachable-requires c = never c.args.self.over.file.now (header c.args.self) (readable c.args.self) c.args.r c.requires.from c.requires.within c.fields-rec.result c.fields-rec.ensures c.in-default.ensures
+unreachable-requires c = never c.args.self.over.file.now (header c.args.self) (readable c.args.self) c.args.r c.requires.from c.requires.within c.fields-rec.result c.fields-rec.ensures c.in_default.ensures
 
 pub returns : goal.returns
 returns c = known c.args.self.over.file.now (header c.args.self) (readable c.args.self) c.args.r c.requires.from c.requires.within c.args.self.over.n c.args.self.over.t c.fields-rec.result c.in-Some.kind c.args.self.over.records c.args.self.over.text c.fields-rec.ensures c.in-Some.ensures

@@ -1,5 +1,5 @@
 -- The file that a line of the vectors stands for.
-use Rattle.std.specs.Prelude.{◌≡◌, ℕ, Bool, true, false, ◌&&◌, ◌⊎◌, List, length, Some, None, Option, ◌==◌, slice_index}
+use Rattle.std.specs.Prelude.{◌≡◌, ℕ, Bool, true, false, ◌&&◌, ◌⊎◌, List, length, Some, Option, ◌==◌, slice_index}
 use Rattle.host.specs.Hex.{Unhexed}
 
 -- a hyphen stands for the empty file, hexadecimal digits for their bytes

@@ -1,5 +1,5 @@
 -- That a file has a given tree, record by record.
-use Rattle.std.proofs.Common.{◌≡◌, ℕ, List, Some, None, Option, sym, refl, ap, ◌∙◌}
+use Rattle.std.proofs.Common.{◌≡◌, ℕ, List, Some, None, Option, ap, ◌∙◌}
 use Rattle.records.specs.Bytes.{rec_at}
 use Rattle.records.specs.Records.{Said, said_at}
 use Rattle.records.specs.Trees.{Tree, none, node, grow, tree_at}

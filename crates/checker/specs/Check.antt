@@ -1,20 +1,17 @@
 -- Functions, the program, and what check answers.
-use Rattle.std.specs.Prelude.{ℕ, Bool, true, false, cond, not, ◌&&◌, ◌||◌, List, [], ◌∷◌, map, length, replicate, Some, None, Ok, Err, Option, Result, ◌==◌}
+use Rattle.std.specs.Prelude.{ℕ, true, false, cond, not, ◌||◌, List, [], ◌∷◌, map, length, replicate, Some, None, Ok, Err, Option, Result, ◌==◌}
 use Rattle.faults.specs.declared.CheckFault.{CheckFault}
 use Rattle.faults.specs.declared.CheckFault.TheVariants.{Again, NoReturn}
 use Rattle.records.specs.declared.kind.Kind.{Kind}
 use Rattle.records.specs.declared.kind.Kind.TheVariants.{Var, TypeDecl, Func}
 use Rattle.records.specs.Kinds.{same_kind}
 use Rattle.records.specs.Bytes.{count}
-use Rattle.records.specs.Records.{Said, kind_in}
+use Rattle.records.specs.Records.{kind_in}
 use Rattle.records.specs.Trees.{Tree, none, node, tree_at}
-use Rattle.names.specs.declared.name.Meaning.{Meaning}
 use Rattle.names.specs.declared.name.Meaning.TheVariants.{Function}
 use Rattle.names.specs.Scopes.{Env, in_scope, enter_at}
-use Rattle.types.specs.declared.Note.{Note}
-use Rattle.types.specs.declared.Entry.{Entry}
 use Rattle.types.specs.Table.{note_of, blank, base}
-use Rattle.checker.specs.Outcome.{St, Out, good, bad, Label, done, fail, bind, need, unless, malformed, put_note, repeated}
+use Rattle.checker.specs.Outcome.{St, Out, good, bad, Label, done, bind, need, unless, malformed, put_note, repeated}
 use Rattle.checker.specs.Terms.{label_in, term, term_next}
 use Rattle.checker.specs.Exprs.{below, beside}
 use Rattle.checker.specs.Paths.{ends_chain}

@@ -1,6 +1,5 @@
 -- Expressions: what each needs of its parts, the type it has and the notes it leaves.
-use Rattle.std.specs.Prelude.{ℕ, Bool, true, false, cond, not, ◌&&◌, ◌||◌, List, [], ◌∷◌, length, Some, None, Ok, Err, Option, Result, ◌==◌}
-use Rattle.faults.specs.declared.CheckFault.{CheckFault}
+use Rattle.std.specs.Prelude.{ℕ, Bool, true, false, cond, not, ◌&&◌, ◌||◌, List, [], ◌∷◌, length, Some, None, Option, ◌==◌}
 use Rattle.faults.specs.declared.CheckFault.TheVariants.{Undeclared, WrongSort, Differs, NotTaken, NoValue, Counts, NoField}
 use Rattle.records.specs.declared.kind.UnaryOp.{UnaryOp}
 use Rattle.records.specs.declared.kind.UnaryOp.TheVariants.{Plus, Minus, Not, Complement}
@@ -19,7 +18,7 @@ use Rattle.types.specs.declared.Entry.{Entry}
 use Rattle.types.specs.declared.Shape.{Shape}
 use Rattle.types.specs.declared.Shape.TheVariants.{Int, Bool as BoolShape, Rune, Text, Slice, Struct, Other}
 use Rattle.types.specs.Table.{note_of, home_global, home_local, home_callee, home_constant, int_type, bool_type, rune_type, string_type, shape_of, field_of, numeric_shape, is_bool, is_text, ordered_shape, cast_shape, comparable}
-use Rattle.checker.specs.Outcome.{St, Out, Label, done, fail, and_then, bind, need, malformed, note_at, put_note, typed}
+use Rattle.checker.specs.Outcome.{St, Out, Label, done, fail, bind, need, malformed, note_at, put_note, typed}
 use Rattle.checker.specs.Terms.{label_in, term}
 
 abbrev pub home_of : Bool → ℕ

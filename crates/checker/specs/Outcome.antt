@@ -1,5 +1,5 @@
 -- A check goes on from state to state until the first fault.
-use Rattle.std.specs.Prelude.{ℕ, ◌-◌, Bool, true, false, cond, ◌||◌, List, [], ◌∷◌, Some, None, Ok, Err, Option, Result, slice_index_or, slice_set}
+use Rattle.std.specs.Prelude.{ℕ, ◌-◌, Bool, false, cond, ◌||◌, List, [], ◌∷◌, Some, None, Ok, Err, Option, Result, slice_index_or, slice_set}
 use Rattle.std.specs.Str.{bytes_eq}
 use Rattle.faults.specs.declared.CheckFault.{CheckFault}
 use Rattle.faults.specs.declared.CheckFault.TheVariants.{File, Entries}

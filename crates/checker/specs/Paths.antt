@@ -3,7 +3,7 @@ use Rattle.std.specs.Prelude.{Bool, true, false, cond, not, ◌&&◌, ◌||◌}
 use Rattle.records.specs.declared.kind.Kind.{Kind}
 use Rattle.records.specs.declared.kind.Kind.TheVariants.{Absent, Empty, Block, Return, Loop, If, Break}
 use Rattle.records.specs.Kinds.{same_kind}
-use Rattle.records.specs.Records.{Said, kind_in}
+use Rattle.records.specs.Records.{kind_in}
 use Rattle.records.specs.Trees.{Tree, none, node}
 
 -- whether a chain of statements has only empty ones

@@ -1,11 +1,10 @@
 -- Statements: what each needs, the names that are in scope after it and the notes it leaves.
-use Rattle.std.specs.Prelude.{ℕ, ◌+◌, Bool, true, false, cond, not, ◌&&◌, ◌||◌, List, [], ◌∷◌, length, Some, None, Option, ◌==◌, nat_lt}
-use Rattle.faults.specs.declared.CheckFault.{CheckFault}
+use Rattle.std.specs.Prelude.{ℕ, Bool, true, false, cond, not, ◌&&◌, ◌||◌, List, [], ◌∷◌, length, Some, None, Option, ◌==◌, nat_lt}
 use Rattle.faults.specs.declared.CheckFault.TheVariants.{Again, WrongSort, Differs, NotTaken, Counts, NotAssignable, NothingNew, NoLoop, Names}
 use Rattle.records.specs.declared.kind.Kind.{Kind}
 use Rattle.records.specs.declared.kind.Kind.TheVariants.{Program, Var, TypeDecl, Func, Params, Param, Name, Absent, TypeName as TypeNameKind, Slice as SliceKind, Struct as StructKind, Field, Empty, Block, ExprStmt, Return, ShortDecl, Assign, Print, Println, Loop, If, Break, Continue, List as ListKind, Int, Rune, Str, Ident, Unary, Binary, Call, Index, Select, Append, Cast}
 use Rattle.records.specs.Kinds.{same_kind}
-use Rattle.records.specs.Records.{Said, kind_in}
+use Rattle.records.specs.Records.{kind_in}
 use Rattle.records.specs.Trees.{Tree, none, node}
 use Rattle.names.specs.declared.name.Meaning.{Meaning}
 use Rattle.names.specs.declared.name.Meaning.TheVariants.{Variable, TypeName, Function, Constant}
@@ -13,9 +12,9 @@ use Rattle.names.specs.Scopes.{Env, seek, in_scope, enter, count, most_names, jo
 use Rattle.types.specs.declared.Note.{Note}
 use Rattle.types.specs.declared.Entry.{Entry}
 use Rattle.types.specs.Table.{note_of, home_global, home_local, bool_type, cells_of, shape_of, base_shape}
-use Rattle.checker.specs.Outcome.{St, Out, Label, done, fail, bind, need, unless, malformed, note_at, put_note, repeated}
-use Rattle.checker.specs.Terms.{label_in, term, term_next}
-use Rattle.checker.specs.Exprs.{home_of, below, beside, record_of, same_types, expr_of, expr_next, exprs}
+use Rattle.checker.specs.Outcome.{St, Out, Label, done, bind, need, unless, malformed, note_at, put_note, repeated}
+use Rattle.checker.specs.Terms.{label_in, term_next}
+use Rattle.checker.specs.Exprs.{home_of, below, beside, same_types, expr_of, expr_next, exprs}
 
 -- where a statement stands: in which file, among the globals or in a function, with which result type (0: none), in a loop
 pub record Ctx : Type 0 where

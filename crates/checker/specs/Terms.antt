@@ -1,8 +1,8 @@
 -- Types as they are written.
-use Rattle.std.specs.Prelude.{ℕ, Bool, true, false, cond, ◌&&◌, ◌||◌, List, [], ◌∷◌, map, Some, None, Ok, Err, Option, Result, nat_le}
+use Rattle.std.specs.Prelude.{ℕ, cond, List, [], ◌∷◌, map, Some, None, Ok, Err, Option, Result, nat_le}
 use Rattle.faults.specs.declared.CheckFault.{CheckFault}
 use Rattle.faults.specs.declared.CheckFault.TheVariants.{Undeclared, Again, WrongSort, Wide}
-use Rattle.records.specs.declared.kind.Kind.TheVariants.{Name, TypeName, Slice, Struct, Field as FieldKind}
+use Rattle.records.specs.declared.kind.Kind.TheVariants.{Name, TypeName, Slice, Struct}
 use Rattle.records.specs.Kinds.{same_kind}
 use Rattle.records.specs.Bytes.{rec_at}
 use Rattle.records.specs.Records.{Said, number, word, bare}
@@ -11,7 +11,7 @@ use Rattle.names.specs.declared.name.Meaning.{Meaning}
 use Rattle.names.specs.declared.name.Meaning.TheVariants.{Variable, TypeName as TypeMeaning, Function, Constant}
 use Rattle.names.specs.Scopes.{Env, meaning}
 use Rattle.types.specs.Table.{Field, enter_slice, enter_struct, field_cells, most_cells}
-use Rattle.checker.specs.Outcome.{St, Out, Label, done, fail, and_then, bind, need, unless, malformed, typed, entered, repeated}
+use Rattle.checker.specs.Outcome.{St, Out, Label, done, and_then, bind, need, unless, malformed, typed, entered, repeated}
 
 -- the type that a name means
 abbrev pub type_meant : ℕ → Option Meaning → Result ℕ CheckFault

@@ -1,6 +1,5 @@
 -- Every fault's number, record and layer.
 use Rattle.std.specs.Prelude.{ℕ}
-use Rattle.faults.specs.declared.Layer.{Layer}
 use Rattle.faults.specs.declared.Layer.TheVariants.{File as FileLayer, Check as CheckLayer}
 use Rattle.faults.specs.declared.Named.{Named}
 use Rattle.faults.specs.declared.FileFault.{FileFault}

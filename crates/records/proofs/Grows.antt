@@ -1,10 +1,10 @@
 -- A tree is its top record over the trees of that record's two links.
-use Rattle.std.proofs.Common.{◌≡◌, ℕ, zero, suc, ◌+◌, ◌-◌, ◌<◌, ◌≤◌, Bool, true, false, cond, ◌&&◌, ◌||◌, eqb, ltb, leb, ◌⊎◌, List, Some, None, Option, sym, refl, ap, ◌∙◌, subst, inl, inr, arith}
+use Rattle.std.proofs.Common.{◌≡◌, ℕ, zero, suc, ◌+◌, ◌-◌, ◌<◌, ◌≤◌, Bool, true, false, cond, ◌⊎◌, List, Some, None, Option, sym, refl, ap, ◌∙◌, subst, inl, inr, arith}
 use Rattle.std.proofs.lemmas.Bool.Decides.{nat_tests}
-use Rattle.std.proofs.lemmas.Bool.{cases_eq, cases_Bool}
+use Rattle.std.proofs.lemmas.Bool.{cases_eq}
 use Rattle.records.specs.Bytes.{rec_at, count, text_size}
-use Rattle.records.specs.Records.{Said, link_up, links_up, linked, said_at, kind_at, say_of, listed_kind, bare_by, whole}
-use Rattle.records.specs.Trees.{Tree, none, node, grow, tree_in, tree_by, tree_at, kind_tree, above, Step}
+use Rattle.records.specs.Records.{Said, link_up, linked, said_at, kind_at, say_of, listed_kind, bare_by}
+use Rattle.records.specs.Trees.{none, node, grow, tree_in, tree_by, tree_at, kind_tree, above, Step}
 
 pub cases_option : {A : Type 0} (o : Option A) → (o ≡ None) ⊎ ((x : A) × (o ≡ Some x))
 cases_option None = inl refl

@@ -1,11 +1,11 @@
 -- What the view of one record gives of the tree.
-use Rattle.std.proofs.Common.{◌≡◌, ℕ, zero, suc, ◌+◌, ◌-◌, ◌*◌, ◌<◌, ◌≤◌, Bool, true, false, cond, ◌&&◌, ◌||◌, eqb, ltb, leb, ◌⊎◌, List, length, Some, None, Option, sym, refl, ap, ◌∙◌, subst, inl, inr, arith}
+use Rattle.std.proofs.Common.{◌≡◌, ℕ, ◌+◌, ◌*◌, ◌<◌, ◌≤◌, true, false, leb, ◌⊎◌, List, length, Some, None, sym, ap, ◌∙◌, inl, inr, arith}
 use Rattle.std.proofs.lemmas.Bool.Decides.{nat_tests}
 use Rattle.records.specs.declared.bytes.Rec.{Rec}
 use Rattle.records.specs.declared.kind.Kind.{Kind}
 use Rattle.records.specs.Bytes.{rec_at, count, text_size}
-use Rattle.records.specs.Records.{Said, bare, links_up, linked, said_at, kind_at, say_by, say_of, listed_kind, bare_by, whole}
-use Rattle.records.specs.Trees.{Tree, none, grow, tree_at, kind_tree, Step}
+use Rattle.records.specs.Records.{bare, links_up, linked, said_at, kind_at, say_by, listed_kind, bare_by, whole}
+use Rattle.records.specs.Trees.{none, grow, tree_at, kind_tree, Step}
 use Rattle.records.proofs.Grows.{tree_none, tree_grows, kind_step, kind_none}
 
 pub whole_true : (f : List ℕ) (n t : ℕ) → n ≡ count f → t ≡ text_size f → 1 ≤ n → n ≤ 2047 → t ≤ 16384 → length f ≡ 6 + 20 * n + t → whole f ≡ true

@@ -1,12 +1,12 @@
 -- One more record's links, counted.
-use Rattle.std.proofs.Common.{◌≡◌, ℕ, zero, suc, ◌+◌, ◌-◌, ◌<◌, ◌≤◌, min, true, List, length, get_or, set, sym, refl, ap, ◌∙◌, add-one, arith}
+use Rattle.std.proofs.Common.{◌≡◌, ℕ, suc, ◌+◌, ◌<◌, ◌≤◌, min, true, List, length, get_or, add-one, arith}
 use Rattle.std.proofs.lemmas.List.{get_or-set_same, get_or-set_other}
 use Rattle.std.proofs.lemmas.Bool.Decides.{nat_tests}
 use Rattle.std.proofs.lemmas.Bool.{cases_eq}
 use Rattle.records.specs.Bytes.{rec_at, count}
 use Rattle.records.specs.Records.{links_up}
 use Rattle.records.specs.declared.bytes.Rec.{Rec}
-use Rattle.rules.specs.Links.{counted, hits, links_to, lead_up, AllLeadUp, Leads}
+use Rattle.rules.specs.Links.{counted, hits, links_to, AllLeadUp, Leads}
 
 -- links that lead up stay within the file
 pub leads : (f : List ℕ) (n r : ℕ) (rec : Rec) → n ≡ count f → n ≤ 2047 → AllLeadUp f n → 1 ≤ r → r ≤ n → rec ≡ rec_at f r → Leads f r rec

@@ -1,5 +1,5 @@
 -- The rules about the kind and the text of a record, and the first of the rules on records that a file breaks.
-use Rattle.std.specs.Prelude.{ℕ, Bool, List, is_some, Some, None, Ok, Err, Option, Result}
+use Rattle.std.specs.Prelude.{ℕ, Bool, List, is_some, Some, None, Ok, Err, Result}
 use Rattle.faults.specs.declared.FileFault.{FileFault}
 use Rattle.faults.specs.declared.FileFault.TheVariants.{Short, Size, Length, Lent, Link, Linked, Deep, Unlisted, Children, Text}
 use Rattle.records.specs.Bytes.{rec_at, text_size}

@@ -1,5 +1,5 @@
 -- The tree of a file that can be read has the kinds of its tree of kinds, and so the listed children.
-use Rattle.std.proofs.Common.{◌≡◌, ℕ, zero, suc, ◌+◌, ◌-◌, ◌<◌, ◌≤◌, Bool, true, false, cond, not, ◌&&◌, ◌||◌, eqb, ◌⊎◌, List, Some, None, Option, sym, refl, ap, ◌∙◌, subst, inl, inr, arith}
+use Rattle.std.proofs.Common.{◌≡◌, ℕ, zero, suc, ◌+◌, ◌-◌, ◌≤◌, true, false, not, ◌&&◌, ◌||◌, eqb, List, Some, None, Option, sym, refl, ap, ◌∙◌, inl, inr, arith}
 use Rattle.std.proofs.lemmas.Bool.{cases_Bool, and_parts}
 use Rattle.std.specs.Option.{option_map}
 use Rattle.records.specs.declared.bytes.Rec.{Rec}
@@ -7,16 +7,16 @@ use Rattle.records.specs.declared.bytes.Header.{Header}
 use Rattle.records.specs.declared.kind.Kind.{Kind}
 use Rattle.records.specs.declared.kind.Form.{Form}
 use Rattle.records.specs.declared.kind.Form.TheVariants.{Bare, Int, Rune, Text, Name}
-use Rattle.records.specs.Kinds.{about, same_kind}
+use Rattle.records.specs.Kinds.{about}
 use Rattle.records.specs.Bytes.{count, text_size, rec_at}
-use Rattle.records.specs.Records.{Said, bare, kind_in, linked, said_at, kind_at, say_form, say_by, say_of, bare_by, text_fits, text_by, listed_kind}
-use Rattle.records.specs.Trees.{Tree, none, node, grow, tree_in, tree_by, tree_at, kind_tree, Step}
-use Rattle.records.proofs.Grows.{Up, up_linked, by_tree}
+use Rattle.records.specs.Records.{Said, bare, kind_in, linked, said_at, kind_at, say_form, say_by, say_of, bare_by, text_by, listed_kind}
+use Rattle.records.specs.Trees.{Tree, none, node, grow, tree_in, tree_by, tree_at, kind_tree}
+use Rattle.records.proofs.Grows.{up_linked, by_tree}
 use Rattle.rules.specs.declared.grammar.Sort.{Sort}
 use Rattle.rules.specs.declared.grammar.Children.{Children}
 use Rattle.rules.specs.Grammar.{admits, contents, slot, children_of}
-use Rattle.rules.specs.Children.{each, holds_by, within, fit, line_fits, is_none, is_root, has_children, children_fit, must_fill, filled}
-use Rattle.rules.specs.Rules.{text_inside, Kept}
+use Rattle.rules.specs.Children.{each, holds_by, fit, line_fits, is_none, is_root, children_fit, must_fill, filled}
+use Rattle.rules.specs.Rules.{text_inside}
 use Rattle.script.specs.Verdict.{Readable}
 use Rattle.script.specs.Trees.{formed}
 

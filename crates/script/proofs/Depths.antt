@@ -1,10 +1,10 @@
 -- Where each record is linked once, its depth is that of the one link to it.
-use Rattle.std.proofs.Common.{◌≡◌, ℕ, zero, suc, ◌+◌, ◌-◌, ◌<◌, ◌≤◌, max, Bool, true, false, cond, eqb, leb, ◌⊎◌, List, sym, refl, ap, ◌∙◌, inl, inr, arith}
+use Rattle.std.proofs.Common.{◌≡◌, ℕ, zero, suc, ◌+◌, ◌-◌, ◌<◌, ◌≤◌, true, List, sym, refl, ap, ◌∙◌, arith}
 use Rattle.std.proofs.lemmas.Bool.Decides.{nat_tests}
 use Rattle.std.proofs.lemmas.Bool.{eqb-true}
 use Rattle.records.specs.Bytes.{count, rec_at}
 use Rattle.records.specs.Records.{links_up}
-use Rattle.rules.specs.Links.{hits, links_from, links_to, linked_once}
+use Rattle.rules.specs.Links.{hits, links_from, links_to}
 use Rattle.rules.specs.Depths.{depth_by, depth}
 use Rattle.script.specs.Depths.{OneWay, DepthLaw}
 

@@ -1,13 +1,13 @@
 -- A tree has no more levels than its deepest record.
-use Rattle.std.proofs.Common.{◌≡◌, ℕ, zero, suc, ◌+◌, ◌-◌, ◌<◌, ◌≤◌, max, Bool, true, false, cond, eqb, leb, ◌⊎◌, List, Some, None, sym, refl, ap, ◌∙◌, subst, inl, inr, arith}
+use Rattle.std.proofs.Common.{◌≡◌, ℕ, zero, suc, ◌+◌, ◌-◌, ◌<◌, ◌≤◌, max, true, List, None, refl, ap, ◌∙◌, inl, inr, arith}
 use Rattle.std.proofs.lemmas.Bool.Decides.{nat_tests}
 use Rattle.std.proofs.lemmas.Bool.{cases_eq, leb-true}
 use Rattle.records.specs.declared.bytes.Header.{Header}
 use Rattle.records.specs.Bytes.{count, rec_at}
-use Rattle.records.specs.Records.{Said, said_at, link_up}
-use Rattle.records.specs.Trees.{Tree, none, node, tree_at, Step}
-use Rattle.records.proofs.Grows.{Up, said_up, by_tree, tree_none, cases_option}
-use Rattle.rules.specs.Depths.{depth_by, depth, shallow, most_depth}
+use Rattle.records.specs.Records.{said_at, link_up}
+use Rattle.records.specs.Trees.{tree_at}
+use Rattle.records.proofs.Grows.{said_up, by_tree, tree_none, cases_option}
+use Rattle.rules.specs.Depths.{depth_by, depth, most_depth}
 use Rattle.script.specs.Verdict.{Readable}
 use Rattle.script.specs.Trees.{height}
 

@@ -1,5 +1,5 @@
 -- Each record stands in the tree of the file exactly once.
-use Rattle.std.proofs.Common.{◌≡◌, ℕ, zero, suc, ◌+◌, ◌-◌, ◌*◌, ◌<◌, ◌≤◌, Bool, true, false, cond, ◌&&◌, eqb, leb, ◌⊎◌, List, is_some, Some, None, Option, sym, refl, ap, ◌∙◌, subst, inl, inr, add-mul, one-mul, zero-mul, arith}
+use Rattle.std.proofs.Common.{◌≡◌, ℕ, zero, suc, ◌+◌, ◌*◌, ◌<◌, ◌≤◌, true, false, cond, eqb, leb, List, is_some, Some, None, Option, sym, refl, ap, ◌∙◌, inl, inr, add-mul, one-mul, zero-mul, arith}
 use Rattle.std.proofs.lemmas.Bool.Decides.{nat_tests}
 use Rattle.std.proofs.lemmas.Bool.{cases_eq, cases_lt, eqb-true}
 use Rattle.records.specs.declared.kind.Kind.{Kind}
@@ -7,11 +7,11 @@ use Rattle.records.specs.declared.bytes.Rec.{Rec}
 use Rattle.records.specs.declared.bytes.Header.{Header}
 use Rattle.records.specs.Kinds.{about}
 use Rattle.records.specs.Bytes.{count, text_size, rec_at}
-use Rattle.records.specs.Records.{Said, said_at, linked, link_up, links_up, listed_kind, text_fits, text_by, say_form, say_by, say_of}
-use Rattle.records.specs.Trees.{Tree, none, node, tree_at, Step}
-use Rattle.records.proofs.Grows.{Up, said_up, by_tree, tree_none, cases_option, some_none}
+use Rattle.records.specs.Records.{Said, said_at, linked, links_up, listed_kind, text_by, say_form, say_by}
+use Rattle.records.specs.Trees.{Tree, none, node, tree_at}
+use Rattle.records.proofs.Grows.{by_tree, some_none}
 use Rattle.records.proofs.Views.{whole_true, linked_is, said_is}
-use Rattle.rules.specs.Links.{lead_up, hits, links_from, links_to, linked_once}
+use Rattle.rules.specs.Links.{lead_up, hits, links_from, links_to}
 use Rattle.rules.specs.Rules.{kind_listed}
 use Rattle.script.specs.Verdict.{Readable}
 use Rattle.script.proofs.Bared.{inside_is}

@@ -1,5 +1,5 @@
 -- The two sample files, by computation.
-use Rattle.std.proofs.Common.{◌≡◌, ℕ, ◌<◌, ◌≤◌, Bool, true, false, ◌||◌, List, length, Some, None, Err, refl, ap, ◌∙◌, subst, arith, lit<, lit≤}
+use Rattle.std.proofs.Common.{◌≡◌, ℕ, Bool, true, false, ◌||◌, Some, None, Err, refl, ap, ◌∙◌, subst, arith, lit≤}
 use Rattle.faults.specs.declared.FileFault.TheVariants.{Link}
 use Rattle.records.specs.Bytes.{count, text_size, rec_at}
 use Rattle.records.specs.declared.kind.Kind.TheVariants.{Program}
@@ -7,11 +7,10 @@ use Rattle.records.specs.Records.{bare, rec_kind, linked, kind_at, Heads}
 use Rattle.records.specs.Trees.{Tree, none, node, kind_tree}
 use Rattle.records.proofs.Grows.{kind_step, kind_none}
 use Rattle.rules.specs.First.{First}
-use Rattle.rules.specs.Links.{lead_up, linked_once}
+use Rattle.rules.specs.Links.{lead_up}
 use Rattle.rules.specs.Depths.{shallow}
 use Rattle.rules.specs.Children.{wants, must_fill, has_children, children_fit}
 use Rattle.rules.specs.Rules.{kind_listed, text_inside, Kept}
-use Rattle.script.specs.Verdict.{Verdict, Readable}
 use Rattle.script.specs.Stages.{Past}
 use Rattle.script.specs.Samples.{Samples, smallest, looped, one_header, lent_for_one}
 use Rattle.script.proofs.Verdicts.{verdict}

@@ -1,5 +1,5 @@
 -- From the stages to the verdict.
-use Rattle.std.proofs.Common.{◌≡◌, ℕ, zero, suc, ◌+◌, ◌<◌, ◌≤◌, Bool, true, false, cond, eqb, leb, ◌⊎◌, List, Some, None, Ok, Err, Result, sym, refl, ap, ◌∙◌, subst, inl, inr, arith, lit<, lit≤}
+use Rattle.std.proofs.Common.{◌≡◌, ℕ, ◌+◌, ◌<◌, ◌≤◌, Bool, true, false, cond, eqb, List, Some, None, Ok, Err, Result, sym, refl, ap, ◌∙◌, subst, inl, inr, arith, lit<, lit≤}
 use Rattle.std.proofs.lemmas.Bool.Decides.{nat_tests}
 use Rattle.std.proofs.lemmas.Bool.{cases_order, cases_lt, false≢true}
 use Rattle.faults.specs.declared.FileFault.{FileFault}
@@ -7,15 +7,15 @@ use Rattle.faults.specs.declared.FileFault.TheVariants.{Short, Size, Length, Len
 use Rattle.faults.specs.Numbers.{file_named}
 use Rattle.records.specs.declared.bytes.Header.{Header}
 use Rattle.records.specs.Bytes.{count}
-use Rattle.records.specs.Records.{long_enough, sized, exact, Heads, HeaderVerdict}
+use Rattle.records.specs.Records.{long_enough, sized, exact, Heads}
 use Rattle.rules.specs.First.{First}
 use Rattle.rules.specs.Links.{lead_up, linked_once}
 use Rattle.rules.specs.Depths.{shallow}
 use Rattle.rules.specs.Children.{children_fit}
 use Rattle.rules.specs.Rules.{kind_listed, text_inside, Kept}
 use Rattle.script.specs.declared.Lengths.{Lengths}
-use Rattle.script.specs.Verdict.{lent_for, lent_enough, holds, From, Sought, Before, Earlier, Verdict, SameAnswer, Readable}
-use Rattle.script.specs.Stages.{Past, Unlent, Stages}
+use Rattle.script.specs.Verdict.{lent_for, lent_enough, holds, From, Sought, Before, Verdict, SameAnswer}
+use Rattle.script.specs.Stages.{Stages}
 
 -- the fault of a number at a record
 abbrev fault_of : ℕ → ℕ → FileFault

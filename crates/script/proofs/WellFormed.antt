@@ -1,5 +1,5 @@
 -- What a file that can be read is known for, from the rules it keeps.
-use Rattle.std.proofs.Common.{◌≡◌, ℕ, ◌≤◌, true, List, IfOk, Ok, Err, Result, sym, refl, ap, ◌∙◌, arith}
+use Rattle.std.proofs.Common.{ℕ, List, IfOk, Ok, Err, Result}
 use Rattle.faults.specs.declared.FileFault.{FileFault}
 use Rattle.records.specs.declared.bytes.Header.{Header}
 use Rattle.script.specs.declared.Lengths.{Lengths}

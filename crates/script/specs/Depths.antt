@@ -1,5 +1,5 @@
 -- Depth in the words of the tree, for files whose records are linked as they should be.
-use Rattle.std.specs.Prelude.{◌≡◌, ℕ, ◌+◌, ◌<◌, ◌≤◌, true, List}
+use Rattle.std.specs.Prelude.{◌≡◌, ℕ, ◌+◌, ◌≤◌, true, List}
 use Rattle.records.specs.Bytes.{count, rec_at}
 use Rattle.rules.specs.Links.{lead_up, linked_once}
 use Rattle.rules.specs.Depths.{depth}

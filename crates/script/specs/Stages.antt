@@ -3,9 +3,8 @@ use Rattle.std.specs.Prelude.{◌≡◌, ℕ, true, false, List, Ok, Err, Result
 use Rattle.faults.specs.declared.FileFault.{FileFault}
 use Rattle.faults.specs.declared.FileFault.TheVariants.{Short, Size, Length, Lent, Link, Linked, Deep, Unlisted, Children, Text}
 use Rattle.records.specs.declared.bytes.Header.{Header}
-use Rattle.records.specs.Bytes.{count}
 use Rattle.records.specs.Records.{HeaderVerdict, Heads}
-use Rattle.rules.specs.Rules.{RecordsVerdict, Kept}
+use Rattle.rules.specs.Rules.{RecordsVerdict}
 use Rattle.script.specs.declared.Lengths.{Lengths}
 use Rattle.script.specs.Verdict.{lent_for, Readable}
 

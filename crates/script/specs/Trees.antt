@@ -1,5 +1,5 @@
 -- What the tree of a file that can be read is like.
-use Rattle.std.specs.Prelude.{◌≡◌, ℕ, ◌+◌, ◌<◌, ◌≤◌, max, Bool, true, false, ◌&&◌, List, is_some, Some, None, Option}
+use Rattle.std.specs.Prelude.{◌≡◌, ℕ, ◌+◌, ◌≤◌, max, Bool, true, ◌&&◌, List, Some, None, Option}
 use Rattle.records.specs.declared.record.Kinded.{Kinded}
 use Rattle.records.specs.declared.record.Node.{Node}
 use Rattle.records.specs.Bytes.{count}

@@ -1,4 +1,4 @@
-use Rattle.std.proofs.Common.{arith, rules}
+use Rattle.std.proofs.Common.{arith}
 use Rattle.rules.proofs.Marks.{fit_is}
 use Rattle.rules.proofs.children.children_listed.Goals as goal
 

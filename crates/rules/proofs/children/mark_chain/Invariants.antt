@@ -1,4 +1,4 @@
-use Rattle.std.proofs.Common.{◌≡◌, ℕ, ◌<◌, false, ◌||◌, length, get_or}
+use Rattle.std.proofs.Common.{◌≡◌, ℕ, ◌<◌, false, ◌||◌, get_or}
 use Rattle.records.specs.Trees.{kind_tree, above}
 use Rattle.rules.specs.Children.{among}
 use Rattle.rules.proofs.children.mark_chain.Given as goal

@@ -1,4 +1,4 @@
-use Rattle.std.proofs.Common.{◌≡◌, ◌-◌, sym, ◌∙◌, arith, rules}
+use Rattle.std.proofs.Common.{◌-◌, sym, ◌∙◌, arith}
 use Rattle.types.specs.Table.{comparable_by}
 use Rattle.types.proofs.Compares.{of_struct, of_base, field_yes, field_no, fields_end}
 use Rattle.types.proofs.fields.+comparable_within.Goals as goal

@@ -1,4 +1,4 @@
-use Rattle.std.proofs.Common.{◌≡◌, sym, ◌∙◌, arith, rules}
+use Rattle.std.proofs.Common.{sym, ◌∙◌, arith}
 use Rattle.types.proofs.Finds.{slice_hit, slice_miss, slice_end}
 use Rattle.types.proofs.seek.find_slice.Goals as goal
 

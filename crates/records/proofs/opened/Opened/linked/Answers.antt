@@ -1,4 +1,4 @@
-use Rattle.std.proofs.Common.{◌≡◌, sym, ◌∙◌, arith}
+use Rattle.std.proofs.Common.{sym, ◌∙◌, arith}
 use Rattle.records.proofs.Views.{linked_out, linked_is, whole_true}
 use Rattle.records.proofs.opened.Opened.linked.Goals as goal
 

@@ -1,4 +1,3 @@
-use Rattle.std.proofs.Common.{sym, refl, ◌∙◌, arith}
 use Rattle.records.specs.declared.bytes.Header.{Header}
 use Rattle.script.specs.declared.script.Script.{Script}
 use Rattle.script.specs.Verdict.{Readable}

@@ -3,9 +3,8 @@
 SAMPLE = samples/balance.bin
 
 run:
-	rt check script_check script_summary
-	./target/bin/script_check < $(SAMPLE)
-	./target/bin/script_summary < $(SAMPLE)
+	cd crates/script_check && rt run < ../../$(SAMPLE)
+	cd crates/script_summary && rt run < ../../$(SAMPLE)
 
 test:
 	.ci/run

@@ -1,15 +1,19 @@
 // What the programs share: reading standard input and hexadecimal text.
 #![tactic(auto)]
 
-ghost use Rattle.std.specs.Prelude.{◌≡◌, ◌+◌, ◌*◌, ◌<◌, ◌≤◌, length, IfOk};
+ghost use Rattle.std.specs.Prelude.{◌≡◌, ◌+◌, ◌*◌, ◌<◌, ◌≤◌, length, take, IfOk};
+ghost use Rattle.std.specs.Io.KnownBytes.{Consumes, IsAtEnd};
 ghost use Rattle.host.specs.Hex.{digit_of, PairAt, Unhexed};
 
 use std::io;
 use std::io::Read;
 
-// Fills the buffer from the input until it is full or the input ends; says how many bytes came.
+// Fills the buffer from the input until it is full or the input ends; says how many bytes came. They are the input's
+// next ones, and fewer than there is room for only where the input has no more.
 pub fn fill<R: Read>(input: &mut R, buf: &mut [u8]) -> io::Result<usize>
-    ensures { IfOk result (λ n. n ≤ length buf.old) }
+    ensures bound { IfOk result (λ n. n ≤ length buf.old) }
+    ensures bytes { IfOk result (λ n. Consumes (R.remaining input.old) (R.remaining input.new) (take n buf.new)) }
+    ensures end { IfOk result (λ n. n < length buf.old → IsAtEnd (R.remaining input.new)) }
 {
     let mut len = 0;
     while len < buf.len() {

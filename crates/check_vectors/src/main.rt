@@ -2,37 +2,30 @@
 // each as one line. A line that is no hexadecimal text gets `no file`.
 #![tactic(auto)]
 
-ghost use Rattle.std.specs.Prelude.{◌≡◌, ◌≤◌, length, IfSome};
+ghost use Rattle.std.specs.Prelude.{length};
+ghost use Rattle.std.specs.Option.{option_copied};
 ghost use Rattle.check_vectors.specs.Lines.{FileOf};
 
-use host::unhex;
-use records::MOST_BYTES;
+use host::{ROOM, unhexed};
 use script::ENOUGH;
 use std::io::{BufRead, BufReader, Write};
 use unit::told;
 
-const ROOM: usize = MOST_BYTES + 1;
-
-// The file that a line stands for, in the buffer: how many bytes it has.
-fn file_of(line: &[u8], file: &mut [u8]) -> Option<usize>
-    ensures bound { IfSome result (λ n. n ≤ length file.old) }
-    ensures bytes { FileOf line.now file.new result }
+// The file that a line stands for, where it fits in the room lent for it.
+fn file_of<'b>(line: &[u8], room: &'b mut [u8]) -> Option<&'b [u8]>
+    ensures { FileOf line.now (length room.old) (option_copied result) }
 {
-    if line.len() == 1 && line[0] == b'-' {
-        Some(0)
-    } else {
-        unhex(line, file)
+    match line {
+        b"-" => Some(&[]),
+        _ => unhexed(line, room),
     }
 }
 
 fn main(rt: HostRuntime) -> anyhow::Result<()> {
-    let mut file = vec![in rt.alloc(); 0u8; ROOM]?;
+    let mut room = vec![in rt.alloc(); 0u8; ROOM]?;
     for line in BufReader::new(rt.alloc(), rt.stdin())?.lines(rt.alloc()) {
-        let line = line?;
-        match file_of(line.as_bytes(), file.as_mut_slice()) {
-            Some(len) => rt
-                .stdout()
-                .write_all(told(&file[0..len], ENOUGH).as_slice())?,
+        match file_of(line?.as_bytes(), &mut room) {
+            Some(file) => rt.stdout().write_all(told(file, ENOUGH).as_slice())?,
             None => rt.stdout().write_all(b"no file\n")?,
         }
     }

@@ -10,6 +10,7 @@ use Rattle.records.specs.Records.{kind_in}
 use Rattle.records.specs.Trees.{Tree, none, node, tree_at}
 use Rattle.names.specs.declared.name.Meaning.TheVariants.{Function}
 use Rattle.names.specs.Scopes.{Env, in_scope, enter_at}
+use Rattle.types.specs.declared.kind.Home.TheVariants.{Nowhere}
 use Rattle.types.specs.Table.{note_of, blank, base}
 use Rattle.checker.specs.Outcome.{St, Out, good, bad, Label, done, bind, need, unless, malformed, put_note, repeated}
 use Rattle.checker.specs.Terms.{label_in, term, term_next}
@@ -61,7 +62,7 @@ func_by f env r (Some l) ps result body s =
     unless (repeated (map param_label xs)) Again s1 (
     bind (result s1) (λ t s2.
     need (not (in_scope l.word env)) (Again l.at) s2 (
-    bind (join_name l (Function r) env (put_note r (note_of (result_type t) 0 0) s2)) (λ e s3.
+    bind (join_name l (Function r) env (put_note r (note_of (result_type t) Nowhere 0) s2)) (λ e s3.
     bind (body_by (func_ctx f (result_type t)) r body xs e s3) (λ u s4. done e s4))))))
 
 abbrev pub func_of : List ℕ → Env → ℕ → Tree → St → Out Env

@@ -13,6 +13,7 @@ use Rattle.records.specs.Trees.{Tree, none, node, tree_at}
 use Rattle.names.specs.declared.name.Meaning.{Meaning}
 use Rattle.names.specs.declared.name.Meaning.TheVariants.{Variable, TypeName, Function, Constant}
 use Rattle.names.specs.Scopes.{Env, meaning}
+use Rattle.types.specs.declared.kind.Home.{Home}
 use Rattle.types.specs.declared.Note.{Note}
 use Rattle.types.specs.declared.Entry.{Entry}
 use Rattle.types.specs.declared.Shape.{Shape}
@@ -21,7 +22,7 @@ use Rattle.types.specs.Table.{note_of, home_global, home_local, home_callee, hom
 use Rattle.checker.specs.Outcome.{St, Out, Label, done, fail, bind, need, malformed, note_at, put_note, typed}
 use Rattle.checker.specs.Terms.{label_in, term}
 
-abbrev pub home_of : Bool → ℕ
+abbrev pub home_of : Bool → Home
 home_of global = cond global home_global home_local
 
 abbrev pub bit_of : Bool → ℕ

@@ -6,6 +6,7 @@ use Rattle.faults.specs.declared.CheckFault.TheVariants.{File, Entries}
 use Rattle.faults.specs.declared.FileFault.TheVariants.{Children}
 use Rattle.types.specs.declared.Note.{Note}
 use Rattle.types.specs.declared.Entry.{Entry}
+use Rattle.types.specs.declared.kind.Home.TheVariants.{Nowhere}
 use Rattle.types.specs.Table.{note_of, blank, Entered}
 
 -- the notes and the type table so far
@@ -59,7 +60,7 @@ put_note r n s = record { notes = slice_set s.notes (r - 1) n; table = s.table }
 
 -- a type as the result, noted at the record
 abbrev pub typed : ℕ → ℕ → St → Out ℕ
-typed r t s = done t (put_note r (note_of t 0 0) s)
+typed r t s = done t (put_note r (note_of t Nowhere 0) s)
 
 -- a type that has been entered into the table, noted at the record
 abbrev pub entered : ℕ → Option Entered → St → Out ℕ

@@ -11,7 +11,7 @@ use Rattle.names.specs.declared.name.Meaning.TheVariants.{Variable, TypeName, Fu
 use Rattle.names.specs.Scopes.{Env, seek, in_scope, enter, count, most_names, join}
 use Rattle.types.specs.declared.Note.{Note}
 use Rattle.types.specs.declared.Entry.{Entry}
-use Rattle.types.specs.Table.{note_of, home_global, home_local, bool_type, cells_of, shape_of, base_shape}
+use Rattle.types.specs.Table.{note_of, is_global, is_local, bool_type, cells_of, shape_of, base_shape}
 use Rattle.checker.specs.Outcome.{St, Out, Label, done, bind, need, unless, malformed, note_at, put_note, repeated}
 use Rattle.checker.specs.Terms.{label_in, term_next}
 use Rattle.checker.specs.Exprs.{home_of, below, beside, same_types, expr_of, expr_next, exprs}
@@ -146,7 +146,7 @@ short_by c env r a s = bind (exprs c.file env (below (beside a)) s) (λ ts s1. s
 
 -- variables, indexed elements and selections of an assignable
 abbrev pub is_variable : Note → Bool
-is_variable n = n.home == home_global || n.home == home_local
+is_variable n = is_global n.home || is_local n.home
 
 abbrev pub assignable_by : List Note → ℕ → Kind → Bool → Bool
 assignable_by notes r k inner = cond (same_kind k Ident) (is_variable (note_at notes r)) (cond (same_kind k Index) true (cond (same_kind k Select) inner false))

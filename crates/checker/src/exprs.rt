@@ -1,6 +1,9 @@
 // What an expression needs of the types of its parts, its own type, and its note.
-ghost use Rattle.std.specs.Prelude.{◌≡◌, ◌-◌, ◌≤◌, List, length, slice_set};
-ghost use Rattle.types.specs.Table.{note_of, shape_of};
+//
+// `table`, `notes` and `r` stay parameters: a struct that lends them would have each contract say, besides, that the
+// slices in it are the same ones after the call.
+ghost use Rattle.std.specs.Prelude.{◌≡◌, ◌-◌, List, slice_set};
+ghost use Rattle.types.specs.Table.{shape_of};
 ghost use Rattle.types.specs.declared.Entry.{Entry as TableEntry};
 ghost use Rattle.checker.specs.Outcome.{out_of, state, typed as typed_as};
 ghost use Rattle.checker.specs.Exprs.{home_of, value_by, unary_takes, unary_of, binary_takes, binary_gives, binary_of, element_of, index_of, append_of, cast_of};
@@ -8,36 +11,27 @@ ghost use Rattle.checker.specs.Exprs.{home_of, value_by, unary_takes, unary_of, 
 use faults::CheckFault;
 use names::Meaning;
 use records::{BinaryOp, UnaryOp};
-use types::{
-    BOOL_TYPE, Entry, HOME_CONSTANT, HOME_GLOBAL, HOME_LOCAL, INT_TYPE, Note, Shape, comparable,
-    shape_of,
-};
+use types::{BLANK, BOOL_TYPE, Entry, Home, INT_TYPE, Note, Shape, comparable, shape_of};
 
-// Writes the note of the record `r`, which counts from 1.
-fn put_note(notes: &mut [Note], r: u16, note: Note)
-    requires from { 1 ≤ r }
-    requires within { r ≤ length notes.old }
-    ensures { notes.new ≡ slice_set notes.old (r - 1) note }
+// Writes the note of the record `r`, which counts from 1, and gives the note's type. Past the last note nothing is
+// written; 0 is taken for 1, as the definition has it.
+fn put_note(notes: &mut [Note], r: u16, note: Note) -> u16
+    ensures notes { notes.new ≡ slice_set notes.old (r - 1) note }
+    ensures ty { result ≡ note.ty }
 {
-    notes[r as usize - 1] = note;
+    let i = (r as usize).saturating_sub(1);
+    // By its index: of an item that `get_mut` lends, a proof does not know what was written.
+    if i < notes.len() {
+        notes[i] = note;
+    }
+    note.ty
 }
 
 // The type, noted at the record.
 fn typed(notes: &mut [Note], r: u16, ty: u16) -> Result<u16, CheckFault>
-    requires from { 1 ≤ r }
-    requires within { r ≤ length notes.old }
     ensures { (table : List TableEntry) → out_of result notes.new table ≡ typed_as r ty (state notes.old table) }
 {
-    put_note(
-        notes,
-        r,
-        Note {
-            ty,
-            home: 0,
-            place: 0,
-        },
-    );
-    Ok(ty)
+    Ok(put_note(notes, r, Note { ty, ..BLANK }))
 }
 
 // Which operands a unary operator takes.
@@ -58,8 +52,6 @@ pub fn unary(
     op: UnaryOp,
     t: u16,
 ) -> Result<u16, CheckFault>
-    requires from { 1 ≤ r }
-    requires within { r ≤ length notes.old }
     ensures { out_of result notes.new table.now ≡ unary_of r op t (state notes.old table.now) }
 {
     if !unary_takes(op, shape_of(table, t)) {
@@ -72,13 +64,12 @@ pub fn unary(
 fn binary_takes(table: &[Entry], op: BinaryOp, t: u16) -> bool
     ensures { result ≡ binary_takes op table.now t }
 {
+    let shape = shape_of(table, t);
     match op {
-        BinaryOp::Or | BinaryOp::And => shape_of(table, t).is_bool(),
+        BinaryOp::Or | BinaryOp::And => shape.is_bool(),
         BinaryOp::Equal | BinaryOp::NotEqual => comparable(table, t),
-        BinaryOp::Less | BinaryOp::AtMost | BinaryOp::Greater | BinaryOp::AtLeast => shape_of(
-            table, t,
-        ).is_ordered(),
-        BinaryOp::Add => shape_of(table, t).is_numeric() || shape_of(table, t).is_text(),
+        BinaryOp::Less | BinaryOp::AtMost | BinaryOp::Greater | BinaryOp::AtLeast | BinaryOp::Add =>
+            shape.is_ordered(),
         BinaryOp::Sub
         | BinaryOp::Mul
         | BinaryOp::Div
@@ -88,7 +79,7 @@ fn binary_takes(table: &[Entry], op: BinaryOp, t: u16) -> bool
         | BinaryOp::Shl
         | BinaryOp::Shr
         | BinaryOp::BitClear
-        | BinaryOp::BitXor => shape_of(table, t).is_numeric(),
+        | BinaryOp::BitXor => shape.is_numeric(),
     }
 }
 
@@ -105,17 +96,7 @@ fn binary_gives(op: BinaryOp, t: u16) -> u16
         | BinaryOp::AtMost
         | BinaryOp::Greater
         | BinaryOp::AtLeast => BOOL_TYPE,
-        BinaryOp::Add
-        | BinaryOp::Sub
-        | BinaryOp::Mul
-        | BinaryOp::Div
-        | BinaryOp::Rem
-        | BinaryOp::BitOr
-        | BinaryOp::BitAnd
-        | BinaryOp::Shl
-        | BinaryOp::Shr
-        | BinaryOp::BitClear
-        | BinaryOp::BitXor => t,
+        _ => t,
     }
 }
 
@@ -128,8 +109,6 @@ pub fn binary(
     t: u16,
     u: u16,
 ) -> Result<u16, CheckFault>
-    requires from { 1 ≤ r }
-    requires within { r ≤ length notes.old }
     ensures { out_of result notes.new table.now ≡ binary_of r op t u (state notes.old table.now) }
 {
     if !binary_takes(table, op, t) || !binary_takes(table, op, u) {
@@ -147,20 +126,15 @@ fn element_of(shape: Shape) -> Option<u16>
 {
     match shape {
         Shape::Slice(of) => Some(of),
-        Shape::Int | Shape::Bool | Shape::Rune | Shape::Text | Shape::Struct(_) | Shape::Other =>
-            None,
+        _ => None,
     }
 }
 
 // An element of what has the type `t`, at an index of the type `u`.
 pub fn index(table: &[Entry], notes: &mut [Note], r: u16, t: u16, u: u16) -> Result<u16, CheckFault>
-    requires from { 1 ≤ r }
-    requires within { r ≤ length notes.old }
     ensures { out_of result notes.new table.now ≡ index_of r (element_of (shape_of table.now t)) u (state notes.old table.now) }
 {
-    let Some(element) = element_of(shape_of(table, t)) else {
-        return Err(CheckFault::NotTaken(r));
-    };
+    let element = element_of(shape_of(table, t)).ok_or(CheckFault::NotTaken(r))?;
     if u != INT_TYPE {
         return Err(CheckFault::Differs(r));
     }
@@ -175,13 +149,9 @@ pub fn append(
     t: u16,
     u: u16,
 ) -> Result<u16, CheckFault>
-    requires from { 1 ≤ r }
-    requires within { r ≤ length notes.old }
     ensures { out_of result notes.new table.now ≡ append_of r t (element_of (shape_of table.now t)) u (state notes.old table.now) }
 {
-    let Some(element) = element_of(shape_of(table, t)) else {
-        return Err(CheckFault::NotTaken(r));
-    };
+    let element = element_of(shape_of(table, t)).ok_or(CheckFault::NotTaken(r))?;
     if element != u {
         return Err(CheckFault::Differs(r));
     }
@@ -190,8 +160,6 @@ pub fn append(
 
 // What has the type `u`, cast to the type `t`.
 pub fn cast(table: &[Entry], notes: &mut [Note], r: u16, t: u16, u: u16) -> Result<u16, CheckFault>
-    requires from { 1 ≤ r }
-    requires within { r ≤ length notes.old }
     ensures { out_of result notes.new table.now ≡ cast_of r t u (state notes.old table.now) }
 {
     if !shape_of(table, t).is_castable() || !shape_of(table, u).is_castable() {
@@ -200,46 +168,28 @@ pub fn cast(table: &[Entry], notes: &mut [Note], r: u16, t: u16, u: u16) -> Resu
     typed(notes, r, t)
 }
 
-fn home_of(global: bool) -> u8
+fn home_of(global: bool) -> Home
     ensures { result ≡ home_of global }
 {
-    if global { HOME_GLOBAL } else { HOME_LOCAL }
+    if global { Home::Global } else { Home::Local }
 }
 
 // An identifier as a value, by what its name means: a variable, or true or false.
 pub fn value(notes: &mut [Note], r: u16, meaning: Option<Meaning>) -> Result<u16, CheckFault>
-    requires from { 1 ≤ r }
-    requires within { r ≤ length notes.old }
     ensures { (table : List TableEntry) → out_of result notes.new table ≡ value_by r meaning (state notes.old table) }
 {
-    let Some(meaning) = meaning else {
-        return Err(CheckFault::Undeclared(r));
+    let note = match meaning.ok_or(CheckFault::Undeclared(r))? {
+        Meaning::Variable { ty, global, place } => Note {
+            ty,
+            home: home_of(global),
+            place,
+        },
+        Meaning::Constant(bit) => Note {
+            ty: BOOL_TYPE,
+            home: Home::Constant,
+            place: u16::from(bit),
+        },
+        Meaning::TypeName(_) | Meaning::Function(_) => return Err(CheckFault::WrongSort(r)),
     };
-    match meaning {
-        Meaning::Variable { ty, global, place } => {
-            put_note(
-                notes,
-                r,
-                Note {
-                    ty,
-                    home: home_of(global),
-                    place,
-                },
-            );
-            Ok(ty)
-        }
-        Meaning::Constant(bit) => {
-            put_note(
-                notes,
-                r,
-                Note {
-                    ty: BOOL_TYPE,
-                    home: HOME_CONSTANT,
-                    place: u16::from(bit),
-                },
-            );
-            Ok(BOOL_TYPE)
-        }
-        Meaning::TypeName(_) | Meaning::Function(_) => Err(CheckFault::WrongSort(r)),
-    }
+    Ok(put_note(notes, r, note))
 }

@@ -1,5 +1,6 @@
 -- Every fault's number, record and layer.
-use Rattle.std.specs.Prelude.{ℕ}
+use Rattle.std.specs.Prelude.{ℕ, List, ◌++◌, codes, decimal}
+use Rattle.faults.specs.declared.Layer.{Layer}
 use Rattle.faults.specs.declared.Layer.TheVariants.{File as FileLayer, Check as CheckLayer}
 use Rattle.faults.specs.declared.Named.{Named}
 use Rattle.faults.specs.declared.FileFault.{FileFault}
@@ -7,11 +8,14 @@ use Rattle.faults.specs.declared.FileFault.TheVariants.{Short, Size, Length, Len
 use Rattle.faults.specs.declared.CheckFault.{CheckFault}
 use Rattle.faults.specs.declared.CheckFault.TheVariants.{File, Undeclared, Again, WrongSort, Differs, NotTaken, NoValue, Counts, NoField, NotAssignable, NothingNew, NoReturn, NoLoop, Wide, Entries, Names}
 
+abbrev pub named : Layer → ℕ → ℕ → Named
+named layer number r = record { number = number; at = r; layer = layer }
+
 abbrev pub in_file : ℕ → ℕ → Named
-in_file number r = record { number = number; at = r; layer = FileLayer }
+in_file = named FileLayer
 
 abbrev pub in_check : ℕ → ℕ → Named
-in_check number r = record { number = number; at = r; layer = CheckLayer }
+in_check = named CheckLayer
 
 abbrev pub file_named : FileFault → Named
 file_named Short = in_file 1 0
@@ -43,3 +47,7 @@ check_named (NoLoop r) = in_check 22 r
 check_named (Wide r) = in_check 23 r
 check_named (Entries r) = in_check 24 r
 check_named (Names r) = in_check 25 r
+
+-- a fault as a line of text has it
+abbrev pub refusal : Named → List ℕ
+refusal n = codes "refused " ++ decimal n.number ++ codes " at " ++ decimal n.at

@@ -2,28 +2,41 @@
 // fault gets its number, the record that it is found at and its layer.
 #![tactic(auto)]
 
-ghost use Rattle.std.specs.Prelude.{◌≡◌};
+ghost use Rattle.std.specs.Prelude.{◌≡◌, Some};
 ghost use Rattle.faults.specs.declared.CheckFault.TheVariants.{File};
-ghost use Rattle.faults.specs.Numbers.{in_file, in_check, file_named, check_named};
+ghost use Rattle.faults.specs.Numbers.{named, file_named, check_named, refusal};
+
+use std::error::Error;
+use std::fmt;
 
 // The layer of the unit that found a fault.
-#[derive(Clone, Copy, Debug)]
+#[derive(Clone, Copy, Debug, PartialEq, Eq)]
 pub enum Layer {
     File,
     Check,
     Run,
 }
 
-// A fault as the support line reads it: its number, the record where it was found (0: the whole input), its layer.
-#[derive(Clone, Copy, Debug)]
+// A fault as the support line reads it: its number, the record where it was found (0: the whole input), its layer. The
+// numbers are what is read out; in the code a fault goes by its name.
+#[derive(Clone, Copy, Debug, PartialEq, Eq)]
 pub struct Named {
     pub number: u8,
     pub at: u16,
     pub layer: Layer,
 }
 
+// The texts of the faults are written out here, since the text of a derived `Error` has no clause.
+impl fmt::Display for Named {
+    ghost output = { λ n. Some (refusal n) };
+
+    fn fmt<W: fmt::Write>(&self, f: &mut fmt::Formatter<W>) -> fmt::Result {
+        write!(f, "refused {} at {}", self.number, self.at)
+    }
+}
+
 // Why a script file cannot be read, with the record where that is so.
-#[derive(Clone, Copy, Debug)]
+#[derive(Clone, Copy, Debug, PartialEq, Eq)]
 pub enum FileFault {
     // shorter than a header
     Short,
@@ -47,23 +60,11 @@ pub enum FileFault {
     Text(u16),
 }
 
-fn in_file(number: u8, at: u16) -> Named
-    ensures { result ≡ in_file number at }
-{
-    Named {
-        number,
-        at,
-        layer: Layer::File,
-    }
-}
-
-fn in_check(number: u8, at: u16) -> Named
-    ensures { result ≡ in_check number at }
-{
-    Named {
-        number,
-        at,
-        layer: Layer::Check,
+impl Named {
+    fn new(layer: Layer, number: u8, at: u16) -> Named
+        ensures { result ≡ named layer number at }
+    {
+        Named { number, at, layer }
     }
 }
 
@@ -72,22 +73,32 @@ impl FileFault {
         ensures { result ≡ file_named self }
     {
         match self {
-            FileFault::Short => in_file(1, 0),
-            FileFault::Size => in_file(2, 0),
-            FileFault::Length => in_file(3, 0),
-            FileFault::Lent => in_file(4, 0),
-            FileFault::Link(at) => in_file(5, at),
-            FileFault::Linked(at) => in_file(6, at),
-            FileFault::Deep(at) => in_file(7, at),
-            FileFault::Unlisted(at) => in_file(8, at),
-            FileFault::Children(at) => in_file(9, at),
-            FileFault::Text(at) => in_file(10, at),
+            FileFault::Short => Named::new(Layer::File, 1, 0),
+            FileFault::Size => Named::new(Layer::File, 2, 0),
+            FileFault::Length => Named::new(Layer::File, 3, 0),
+            FileFault::Lent => Named::new(Layer::File, 4, 0),
+            FileFault::Link(at) => Named::new(Layer::File, 5, at),
+            FileFault::Linked(at) => Named::new(Layer::File, 6, at),
+            FileFault::Deep(at) => Named::new(Layer::File, 7, at),
+            FileFault::Unlisted(at) => Named::new(Layer::File, 8, at),
+            FileFault::Children(at) => Named::new(Layer::File, 9, at),
+            FileFault::Text(at) => Named::new(Layer::File, 10, at),
         }
     }
 }
 
+impl fmt::Display for FileFault {
+    ghost output = { λ e. Some (refusal (file_named e)) };
+
+    fn fmt<W: fmt::Write>(&self, f: &mut fmt::Formatter<W>) -> fmt::Result {
+        self.named().fmt(f)
+    }
+}
+
+impl Error for FileFault {}
+
 // Why a script is not accepted.
-#[derive(Clone, Copy, Debug)]
+#[derive(Clone, Copy, Debug, PartialEq, Eq)]
 pub enum CheckFault {
     // the file cannot be read: the reader's fault, whole
     File(FileFault),
@@ -129,24 +140,34 @@ impl CheckFault {
     {
         match self {
             CheckFault::File(fault) => fault.named(),
-            CheckFault::Undeclared(at) => in_check(11, at),
-            CheckFault::Again(at) => in_check(12, at),
-            CheckFault::WrongSort(at) => in_check(13, at),
-            CheckFault::Differs(at) => in_check(14, at),
-            CheckFault::NotTaken(at) => in_check(15, at),
-            CheckFault::NoValue(at) => in_check(16, at),
-            CheckFault::Counts(at) => in_check(17, at),
-            CheckFault::NoField(at) => in_check(18, at),
-            CheckFault::NotAssignable(at) => in_check(19, at),
-            CheckFault::NothingNew(at) => in_check(20, at),
-            CheckFault::NoReturn(at) => in_check(21, at),
-            CheckFault::NoLoop(at) => in_check(22, at),
-            CheckFault::Wide(at) => in_check(23, at),
-            CheckFault::Entries(at) => in_check(24, at),
-            CheckFault::Names(at) => in_check(25, at),
+            CheckFault::Undeclared(at) => Named::new(Layer::Check, 11, at),
+            CheckFault::Again(at) => Named::new(Layer::Check, 12, at),
+            CheckFault::WrongSort(at) => Named::new(Layer::Check, 13, at),
+            CheckFault::Differs(at) => Named::new(Layer::Check, 14, at),
+            CheckFault::NotTaken(at) => Named::new(Layer::Check, 15, at),
+            CheckFault::NoValue(at) => Named::new(Layer::Check, 16, at),
+            CheckFault::Counts(at) => Named::new(Layer::Check, 17, at),
+            CheckFault::NoField(at) => Named::new(Layer::Check, 18, at),
+            CheckFault::NotAssignable(at) => Named::new(Layer::Check, 19, at),
+            CheckFault::NothingNew(at) => Named::new(Layer::Check, 20, at),
+            CheckFault::NoReturn(at) => Named::new(Layer::Check, 21, at),
+            CheckFault::NoLoop(at) => Named::new(Layer::Check, 22, at),
+            CheckFault::Wide(at) => Named::new(Layer::Check, 23, at),
+            CheckFault::Entries(at) => Named::new(Layer::Check, 24, at),
+            CheckFault::Names(at) => Named::new(Layer::Check, 25, at),
         }
     }
 }
+
+impl fmt::Display for CheckFault {
+    ghost output = { λ e. Some (refusal (check_named e)) };
+
+    fn fmt<W: fmt::Write>(&self, f: &mut fmt::Formatter<W>) -> fmt::Result {
+        write!(f, "{}", self.named())
+    }
+}
+
+impl Error for CheckFault {}
 
 impl From<FileFault> for CheckFault {
     ghost from_gives = { λ e r. r ≡ File e };

@@ -1,2 +1,2 @@
-mod Seeks
+pub mod Seeks
 pub mod Laws

@@ -2,6 +2,7 @@
 use Rattle.std.specs.Prelude.{◌≡◌, ℕ, zero, suc, ◌+◌, ◌-◌, ◌<◌, ◌≤◌, Bool, true, false, cond, List, [], ◌∷◌, ◌++◌, length, is_some, Some, None, codes, Option, nat_le, slice_index_or}
 use Rattle.std.specs.Str.{bytes_eq}
 use Rattle.records.specs.Bytes.{text_at}
+use Rattle.types.specs.Table.{int_type, bool_type, rune_type, string_type}
 use Rattle.names.specs.declared.name.Meaning.{Meaning}
 use Rattle.names.specs.declared.name.Meaning.TheVariants.{Variable, TypeName, Constant}
 use Rattle.names.specs.declared.name.Name.{Name}
@@ -28,10 +29,10 @@ abbrev pub six : List Binding
 six =
     record { word = codes "true"; means = Constant true }
     ∷ record { word = codes "false"; means = Constant false }
-    ∷ record { word = codes "int"; means = TypeName 1 }
-    ∷ record { word = codes "bool"; means = TypeName 2 }
-    ∷ record { word = codes "rune"; means = TypeName 3 }
-    ∷ record { word = codes "string"; means = TypeName 4 }
+    ∷ record { word = codes "int"; means = TypeName int_type }
+    ∷ record { word = codes "bool"; means = TypeName bool_type }
+    ∷ record { word = codes "rune"; means = TypeName rune_type }
+    ∷ record { word = codes "string"; means = TypeName string_type }
     ∷ []
 
 -- what a word means outside every scope of the script

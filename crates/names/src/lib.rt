@@ -5,7 +5,9 @@
 mod name;
 mod scope;
 mod seek;
+mod view;
 
 pub use name::{Mark, Meaning, Name};
 pub use scope::{Scope, join_name, room};
-pub use seek::{declared_here, find, meaning_of, predeclared_of};
+pub use seek::{find, predeclared_of};
+pub use view::View;

@@ -1,6 +1,6 @@
 // How names come into scope, and go out of it again.
-ghost use Rattle.std.specs.Prelude.{◌≡◌, ℕ, ◌+◌, ◌^◌, ◌<◌, ◌≤◌, List, length, nat_lt, slice_set};
-ghost use Rattle.names.specs.Scopes.{word_of, count, join, most_names, most_slots, env_of, moved, Sound, Frame};
+ghost use Rattle.std.specs.Prelude.{◌≡◌, ℕ, ◌+◌, ◌^◌, ◌<◌, ◌≤◌, List, nat_lt};
+ghost use Rattle.names.specs.Scopes.{word_of, count, join, most_names, most_slots, env_of, Sound, Frame};
 ghost use Rattle.names.specs.declared.name.Name.{Name as Slot};
 
 use crate::name::{Mark, Name};
@@ -8,35 +8,18 @@ use crate::name::{Mark, Name};
 // Six of the most names that may be in scope are there from the start.
 const MOST_SLOTS: usize = 250;
 
-// Whether there is a slot for one more name.
-fn has_slot(mark: Mark) -> bool
-    ensures { result ≡ nat_lt mark.top most_slots }
-{
-    mark.top < MOST_SLOTS
-}
-
 // Whether one more name may be in scope.
+#[tactic(auto, using(crate::proofs::Laws::room_counts))]
 pub fn room(mark: Mark) -> bool
     requires { mark.floor ≤ mark.top }
     ensures slots { result ≡ nat_lt mark.top most_slots }
     ensures names { (f : List ℕ) (slots : List Slot) → result ≡ nat_lt (count (env_of f slots mark)) most_names }
 {
-    has_slot(mark)
-}
-
-// Writes the next slot, and moves the mark past it.
-fn put(names: &mut [Name], mark: &mut Mark, name: Name, cells: u16)
-    requires slot { mark.old.top < length names.old }
-    requires cells { mark.old.place + cells < 2 ^ 16 }
-    ensures slots { names.new ≡ slice_set names.old mark.old.top name }
-    ensures mark { mark.new ≡ moved cells mark.old }
-{
-    names[mark.top] = name;
-    mark.top += 1;
-    mark.place += cells;
+    mark.top < MOST_SLOTS
 }
 
 // Puts a name into the current scope, and takes that many cells for it.
+#[tactic(auto, using(crate::proofs::Laws::written_next, crate::proofs::Laws::written_after))]
 pub fn join_name(names: &mut [Name], mark: &mut Mark, name: Name, cells: u16)
     requires sound { Sound names.old mark.old }
     requires room { mark.old.top < most_slots }
@@ -45,7 +28,9 @@ pub fn join_name(names: &mut [Name], mark: &mut Mark, name: Name, cells: u16)
     ensures frame { Frame names.old mark.old names.new mark.new }
     ensures sound { Sound names.new mark.new }
 {
-    put(names, mark, name, cells);
+    names[mark.top] = name;
+    mark.top += 1;
+    mark.place += cells;
 }
 
 // A scope while it is open. `outer` is the mark at its start, which is put back however the scope is left.

@@ -1,51 +1,36 @@
 // Which name a word stands for.
 ghost use Rattle.std.specs.Prelude.{◌≡◌, ◌≤◌, length};
-ghost use Rattle.std.specs.Str.{bytes_eq};
-ghost use Rattle.names.specs.Scopes.{word_of, bindings, seek, predeclared, meaning, in_scope, env_of, Latest, Sound};
+ghost use Rattle.names.specs.Scopes.{word_of, bindings, seek, predeclared, meaning, in_scope, Latest};
+ghost use Rattle.names.specs.Views.{file_of, env_at};
 
-use crate::name::{Mark, Meaning, Name};
-use records::{HEADER_SIZE, RECORD_SIZE};
+use crate::name::{Meaning, Name};
+use crate::view::View;
 use script::Script;
+use types::{BOOL_TYPE, INT_TYPE, RUNE_TYPE, STRING_TYPE};
 
 // The bytes of a name, as many of them as the file has.
 fn word_of<'a>(script: Script<'a>, name: Name) -> &'a [u8]
     ensures { result.now ≡ word_of script.entry.over.file.now name }
 {
-    let file = script.over.file;
-    let text = HEADER_SIZE + RECORD_SIZE * script.over.n as usize;
-    let from = file.len().min(text + name.at as usize);
-    let to = file.len().min(from + name.len as usize);
-    &file[from..to]
+    script.over.text(name.at, name.len)
 }
 
-fn same(a: &[u8], b: &[u8]) -> bool
-    ensures { result ≡ bytes_eq a.now b.now }
+// The latest of these slots whose name is the word. (The script and the slots go together here and in `find` alone.)
+fn latest(script: Script, names: &[Name], word: &[u8]) -> Option<usize>
+    ensures { Latest script.entry.over.file.now names.now 0 (length names.now) word.now result }
 {
-    a == b
+    names
+        .iter()
+        .rposition(|name| word_of(script, *name) == word)
 }
 
 // The latest of the slots from `floor` up to `top` whose name is the word.
+#[tactic(auto, using(crate::proofs::Seeks::shifted))]
 pub fn find(script: Script, names: &[Name], floor: usize, top: usize, word: &[u8]) -> Option<usize>
     requires { top ≤ length names.now }
     ensures { Latest script.entry.over.file.now names.now floor top word.now result }
 {
-    for i in (floor..top).rev() {
-        if same(word_of(script, names[i]), word) {
-            return Some(i);
-        }
-    }
-    None
-}
-
-// What it means there.
-fn seek_in(script: Script, names: &[Name], floor: usize, top: usize, word: &[u8]) -> Option<Meaning>
-    requires { top ≤ length names.now }
-    ensures { result ≡ seek word.now (bindings script.entry.over.file.now names.now floor top) }
-{
-    match find(script, names, floor, top, word) {
-        Some(i) => Some(names[i].means),
-        None => None,
-    }
+    latest(script, names.get(floor..top)?, word).map(|i| floor + i)
 }
 
 // What a word means outside every scope of the script.
@@ -55,32 +40,44 @@ pub fn predeclared_of(word: &[u8]) -> Option<Meaning>
     match word {
         b"true" => Some(Meaning::Constant(true)),
         b"false" => Some(Meaning::Constant(false)),
-        b"int" => Some(Meaning::TypeName(1)),
-        b"bool" => Some(Meaning::TypeName(2)),
-        b"rune" => Some(Meaning::TypeName(3)),
-        b"string" => Some(Meaning::TypeName(4)),
+        b"int" => Some(Meaning::TypeName(INT_TYPE)),
+        b"bool" => Some(Meaning::TypeName(BOOL_TYPE)),
+        b"rune" => Some(Meaning::TypeName(RUNE_TYPE)),
+        b"string" => Some(Meaning::TypeName(STRING_TYPE)),
         _ => None,
     }
 }
 
-// What a word means where it stands: as the innermost scope has it that has it at all.
-pub fn meaning_of(script: Script, names: &[Name], mark: Mark, word: &[u8]) -> Option<Meaning>
-    requires { Sound names.now mark }
-    ensures { result ≡ meaning word.now (env_of script.entry.over.file.now names.now mark) }
-{
-    if let Some(means) = seek_in(script, names, mark.floor, mark.top, word) {
-        return Some(means);
+impl View<'_, '_> {
+    // What a word means in the slots from `floor` up to `top`.
+    #[tactic(auto, using(crate::proofs::Seeks::latest_seeks))]
+    fn between(self, floor: usize, top: usize, word: &[u8]) -> Option<Meaning>
+        requires { top ≤ length self.names.now }
+        ensures { result ≡ seek word.now (bindings (file_of self.entry) self.entry.names.now floor top) }
+    {
+        find(self.script, self.names, floor, top, word).map(|i| self.names[i].means)
     }
-    if let Some(means) = seek_in(script, names, 0, mark.floor, word) {
-        return Some(means);
-    }
-    predeclared_of(word)
-}
 
-// Whether the current scope has the word.
-pub fn declared_here(script: Script, names: &[Name], mark: Mark, word: &[u8]) -> bool
-    requires { Sound names.now mark }
-    ensures { result ≡ in_scope word.now (env_of script.entry.over.file.now names.now mark) }
-{
-    seek_in(script, names, mark.floor, mark.top, word).is_some()
+    // What it means where it stands: as the innermost scope has it that has it at all. That one has the latest slot.
+    #[tactic(auto, using(crate::proofs::Seeks::innermost))]
+    pub fn meaning(self, word: &[u8]) -> Option<Meaning>
+        ensures { result ≡ meaning word.now (env_at self.entry) }
+    {
+        self.between(0, self.mark.top, word)
+            .or_else(|| predeclared_of(word))
+    }
+
+    // What it means in the current scope.
+    pub fn here(self, word: &[u8]) -> Option<Meaning>
+        ensures { result ≡ seek word.now (env_at self.entry).here }
+    {
+        self.between(self.mark.floor, self.mark.top, word)
+    }
+
+    // Whether the current scope has it.
+    pub fn declared(self, word: &[u8]) -> bool
+        ensures { result ≡ in_scope word.now (env_at self.entry) }
+    {
+        self.here(word).is_some()
+    }
 }

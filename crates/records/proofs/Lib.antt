@@ -1,2 +1,4 @@
 pub mod Grows
 pub mod Views
+mod Fields
+pub mod Passing

@@ -1,19 +1,20 @@
 -- What the view of one record gives of the tree.
-use Rattle.std.proofs.Common.{◌≡◌, ℕ, ◌+◌, ◌*◌, ◌<◌, ◌≤◌, true, false, leb, ◌⊎◌, List, length, Some, None, sym, ap, ◌∙◌, inl, inr, arith}
+use Rattle.std.proofs.Common.{◌≡◌, ℕ, ◌+◌, ◌*◌, ◌<◌, ◌≤◌, Bool, true, false, leb, ◌⊎◌, List, length, Some, None, Option, sym, ap, ◌∙◌, inl, inr, arith}
 use Rattle.std.proofs.lemmas.Bool.Decides.{nat_tests}
+use Rattle.std.specs.Bool.{then_some}
 use Rattle.records.specs.declared.bytes.Rec.{Rec}
 use Rattle.records.specs.declared.kind.Kind.{Kind}
 use Rattle.records.specs.Bytes.{rec_at, count, text_size}
-use Rattle.records.specs.Records.{bare, links_up, linked, said_at, kind_at, say_by, listed_kind, bare_by, whole}
+use Rattle.records.specs.Records.{bare, links_up, linked, said_at, kind_at, say_by, listed_kind, bare_by, whole, LinkedRec}
 use Rattle.records.specs.Trees.{none, grow, tree_at, kind_tree, Step}
 use Rattle.records.proofs.Grows.{tree_none, tree_grows, kind_step, kind_none}
 
 pub whole_true : (f : List ℕ) (n t : ℕ) → n ≡ count f → t ≡ text_size f → 1 ≤ n → n ≤ 2047 → t ≤ 16384 → length f ≡ 6 + 20 * n + t → whole f ≡ true
 whole_true f n t en et a b d e = grind (arith, nat_tests, en, et, e)
 
-pub linked_out : (f : List ℕ) (n r : ℕ) → n ≡ count f → (r ≡ 0) ⊎ ((r ≡ 0 → ⊥) × (n < r)) → linked f r ≡ false
+pub linked_out : (f : List ℕ) (n r : ℕ) → n ≡ count f → (r ≡ 0) ⊎ (n < r) → linked f r ≡ false
 unfolding linked
-linked_out f n r en h = elim h [ inl a ↦ grind (arith, nat_tests, en, a) | inr a ↦ grind (arith, nat_tests, en, a.1) ]
+linked_out f n r en h = elim h [ inl a ↦ grind (arith, nat_tests, en, a) | inr a ↦ grind (arith, nat_tests, en, a) ]
 
 pub linked_is : (f : List ℕ) (n r : ℕ) (rec : Rec) → n ≡ count f → whole f ≡ true → 1 ≤ r → r ≤ n → rec ≡ rec_at f r → linked f r ≡ links_up n r rec
 unfolding linked
@@ -59,3 +60,8 @@ pub says_by : (f : List ℕ) (t r : ℕ) (rec : Rec) (k : Kind) → t ≡ text_s
 says_by f t r rec k et l e h =
     let s : said_at f r ≡ say_by f t rec (Some k) = said_is f t r rec et l e ∙ sym (ap (say_by f t rec) h) in
     tree_grows f r ∙ ap (λ o. grow r o (tree_at f (rec_at f r).first) (tree_at f (rec_at f r).next)) s ∙ sym (ap (λ (x : Rec). grow r (say_by f t rec (Some k)) (tree_at f x.first) (tree_at f x.next)) e)
+
+-- the fields of a record are handed on where its links lead up
+pub linked_rec : (f : List ℕ) (r : ℕ) (rec : Rec) (b : Bool) (o : Option Rec) → linked f r ≡ b → rec ≡ rec_at f r → o ≡ then_some b rec → LinkedRec f r o
+linked_rec f r rec true o l e eo = rw eo (l, e)
+linked_rec f r rec false o l e eo = rw eo l

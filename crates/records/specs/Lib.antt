@@ -2,3 +2,4 @@ pub mod Kinds
 pub mod Bytes
 pub mod Records
 pub mod Trees
+pub mod Places

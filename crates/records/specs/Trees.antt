@@ -2,7 +2,8 @@
 use Rattle.std.specs.Prelude.{◌≡◌, ℕ, zero, suc, ◌-◌, ◌<◌, ◌≤◌, cond, List, Some, None, Option, ◌==◌}
 use Rattle.records.specs.declared.record.Kinded.{Kinded}
 use Rattle.records.specs.declared.record.Node.{Node}
-use Rattle.records.specs.declared.record.Shape.{Shape}
+use Rattle.records.specs.declared.record.Record.{Record}
+use Rattle.records.specs.declared.kind.Kind.{Kind}
 use Rattle.records.specs.Bytes.{rec_at}
 use Rattle.records.specs.Records.{Said, bare, seen, say_by, said_at, kind_at}
 
@@ -57,10 +58,10 @@ KindedAt f n t r None = (kind_tree f r ≡ none) × (tree_at f r ≡ none)
 KindedAt f n t r (Some k) = Kinds f n t r k
 
 -- what stands at r: nothing, or a record
-abbrev pub Top : (ℕ → Tree) → ℕ → ℕ → Option Node → Type 0
+abbrev pub Top : (ℕ → Tree) → ℕ → ℕ → Option (Node Record) → Type 0
 Top tree n r None = tree r ≡ none
 Top tree n r (Some nd) = Step tree n r (seen nd.«record») nd.first nd.next
 
-abbrev pub TopKind : (ℕ → Tree) → ℕ → ℕ → Option Shape → Type 0
+abbrev pub TopKind : (ℕ → Tree) → ℕ → ℕ → Option (Node Kind) → Type 0
 TopKind tree n r None = tree r ≡ none
-TopKind tree n r (Some s) = Step tree n r (bare s.kind) s.first s.next
+TopKind tree n r (Some s) = Step tree n r (bare s.«record») s.first s.next

@@ -1,6 +1,6 @@
 // The numbers of a file, its header and the fields of a record.
-ghost use Rattle.std.specs.Prelude.{◌≡◌, ◌+◌, ◌*◌, ◌≤◌, length};
-ghost use Rattle.records.specs.Bytes.{be16, be32, signed64, count, text_size, rec_at};
+ghost use Rattle.std.specs.Prelude.{◌≡◌, ◌+◌, ◌*◌, ◌≤◌, length, slice_range};
+ghost use Rattle.records.specs.Bytes.{count, text_size, rec_at};
 ghost use Rattle.records.specs.Records.{HeaderVerdict};
 
 use faults::FileFault;
@@ -21,14 +21,15 @@ pub const MOST_BYTES: usize = HEADER_SIZE
     + MOST_TEXT as usize;
 
 // What the first bytes of a file say: how many records follow, and how many bytes of text after these.
-#[derive(Clone, Copy)]
+#[derive(Clone, Copy, Debug, PartialEq, Eq)]
 pub struct Header {
     pub records: u16,
     pub text: u32,
 }
 
-// The fields of a record, whether its kind needs them or not.
-#[derive(Clone, Copy)]
+// The fields of a record, whether its kind needs them or not. `kind` and `op` are the file's bytes and may be any
+// number; a link is 0 for none (see `Node`).
+#[derive(Clone, Copy, Debug, PartialEq, Eq)]
 pub struct Rec {
     pub kind: u8,
     pub op: u8,
@@ -39,48 +40,30 @@ pub struct Rec {
     pub value: i64,
 }
 
-fn u16_at(file: &[u8], at: usize) -> u16
-    requires { at + 2 ≤ length file.now }
-    ensures { result ≡ be16 file.now at }
+// The `N` bytes from place `at` on.
+fn bytes_at<const N: usize>(file: &[u8], at: usize) -> [u8; N]
+    requires { at + N ≤ length file.now }
+    ensures { result ≡ slice_range file.now at (at + N) }
 {
-    u16::from_be_bytes([file[at], file[at + 1]])
+    let mut bytes = [0; N];
+    bytes.copy_from_slice(&file[at..at + N]);
+    bytes
 }
 
-fn u32_at(file: &[u8], at: usize) -> u32
-    requires { at + 4 ≤ length file.now }
-    ensures { result ≡ be32 file.now at }
-{
-    u32::from_be_bytes([file[at], file[at + 1], file[at + 2], file[at + 3]])
-}
-
-fn i64_at(file: &[u8], at: usize) -> i64
-    requires { at + 8 ≤ length file.now }
-    ensures { result ≡ signed64 file.now at }
-{
-    i64::from_be_bytes([
-        file[at],
-        file[at + 1],
-        file[at + 2],
-        file[at + 3],
-        file[at + 4],
-        file[at + 5],
-        file[at + 6],
-        file[at + 7],
-    ])
-}
-
+#[tactic(auto, unfolding(crate::specs::Bytes::count))]
 fn count_of(file: &[u8]) -> u16
     requires { 6 ≤ length file.now }
     ensures { result ≡ count file.now }
 {
-    u16_at(file, 0)
+    u16::from_be_bytes(bytes_at(file, 0))
 }
 
+#[tactic(auto, unfolding(crate::specs::Bytes::text_size))]
 fn text_size_of(file: &[u8]) -> u32
     requires { 6 ≤ length file.now }
     ensures { result ≡ text_size file.now }
 {
-    u32_at(file, 2)
+    u32::from_be_bytes(bytes_at(file, 2))
 }
 
 // The header, where the file is as long as it says and no larger than a script may be.
@@ -102,6 +85,7 @@ pub fn open(file: &[u8]) -> Result<Header, FileFault>
 }
 
 // The fields of the record `r`, which counts from 1.
+#[tactic(auto, using(crate::proofs::Fields::be16_is, crate::proofs::Fields::be32_is, crate::proofs::Fields::be64_is), unfolding(crate::specs::Bytes::rec_at))]
 pub fn fetch(file: &[u8], r: u16) -> Rec
     requires from { 1 ≤ r }
     requires within { 6 + 20 * r ≤ length file.now }
@@ -111,10 +95,10 @@ pub fn fetch(file: &[u8], r: u16) -> Rec
     Rec {
         kind: file[at],
         op: file[at + 1],
-        first: u16_at(file, at + 2),
-        next: u16_at(file, at + 4),
-        len: u16_at(file, at + 6),
-        at: u32_at(file, at + 8),
-        value: i64_at(file, at + 12),
+        first: u16::from_be_bytes(bytes_at(file, at + 2)),
+        next: u16::from_be_bytes(bytes_at(file, at + 4)),
+        len: u16::from_be_bytes(bytes_at(file, at + 6)),
+        at: u32::from_be_bytes(bytes_at(file, at + 8)),
+        value: i64::from_be_bytes(bytes_at(file, at + 12)),
     }
 }

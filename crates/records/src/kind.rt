@@ -1,8 +1,11 @@
 // The kinds of records and the operators: what the bytes for them mean, and what a record of each kind holds.
 ghost use Rattle.std.specs.Prelude.{◌≡◌};
+ghost use Rattle.std.specs.Result.{result_ok};
 ghost use Rattle.records.specs.Kinds.{unary_of, binary_of, print_of, kind_of, same_kind, line as line_of, about as about_of};
 
-#[derive(Clone, Copy)]
+use thiserror::Error;
+
+#[derive(Clone, Copy, Debug, PartialEq, Eq)]
 pub enum UnaryOp {
     Plus,
     Minus,
@@ -10,7 +13,7 @@ pub enum UnaryOp {
     Complement,
 }
 
-#[derive(Clone, Copy)]
+#[derive(Clone, Copy, Debug, PartialEq, Eq)]
 pub enum BinaryOp {
     Or,
     And,
@@ -33,8 +36,13 @@ pub enum BinaryOp {
     BitXor,
 }
 
+// What a byte that stands for no operator is turned down with.
+#[derive(Clone, Copy, Debug, PartialEq, Eq, Error)]
+#[error("no operator has this number")]
+pub struct NotListed;
+
 // A kind of record. An operator is part of the kind.
-#[derive(Clone, Copy)]
+#[derive(Clone, Copy, Debug, PartialEq, Eq)]
 pub enum Kind {
     Program,
     Var,
@@ -76,7 +84,7 @@ pub enum Kind {
 
 // What a record of a kind holds besides its links: nothing, a number of 64 or 32 bits, a text part, or a text part
 // that is a name and so never empty.
-#[derive(Clone, Copy)]
+#[derive(Clone, Copy, Debug, PartialEq, Eq)]
 pub enum Form {
     Bare,
     Int,
@@ -86,7 +94,7 @@ pub enum Form {
 }
 
 // The group of kinds that stand in for each other as children.
-#[derive(Clone, Copy)]
+#[derive(Clone, Copy, Debug, PartialEq, Eq)]
 pub enum Class {
     Types,
     Statements,
@@ -94,53 +102,57 @@ pub enum Class {
     Others,
 }
 
-// A line of the table of kinds.
-#[derive(Clone, Copy)]
+// A line of the table of kinds. The number is the one that the file has.
+#[derive(Clone, Copy, Debug, PartialEq, Eq)]
 pub struct About {
     pub number: u8,
     pub form: Form,
     pub class: Class,
 }
 
-impl UnaryOp {
-    pub fn of(op: u8) -> Option<UnaryOp>
-        ensures { result ≡ unary_of op }
-    {
+impl TryFrom<u8> for UnaryOp {
+    type Error = NotListed;
+
+    ghost try_from_gives = { λ op r. result_ok r ≡ unary_of op };
+
+    fn try_from(op: u8) -> Result<UnaryOp, NotListed> {
         match op {
-            1 => Some(UnaryOp::Plus),
-            2 => Some(UnaryOp::Minus),
-            3 => Some(UnaryOp::Not),
-            4 => Some(UnaryOp::Complement),
-            _ => None,
+            1 => Ok(UnaryOp::Plus),
+            2 => Ok(UnaryOp::Minus),
+            3 => Ok(UnaryOp::Not),
+            4 => Ok(UnaryOp::Complement),
+            _ => Err(NotListed),
         }
     }
 }
 
-impl BinaryOp {
-    pub fn of(op: u8) -> Option<BinaryOp>
-        ensures { result ≡ binary_of op }
-    {
+impl TryFrom<u8> for BinaryOp {
+    type Error = NotListed;
+
+    ghost try_from_gives = { λ op r. result_ok r ≡ binary_of op };
+
+    fn try_from(op: u8) -> Result<BinaryOp, NotListed> {
         match op {
-            1 => Some(BinaryOp::Or),
-            2 => Some(BinaryOp::And),
-            3 => Some(BinaryOp::Equal),
-            4 => Some(BinaryOp::NotEqual),
-            5 => Some(BinaryOp::Less),
-            6 => Some(BinaryOp::AtMost),
-            7 => Some(BinaryOp::Greater),
-            8 => Some(BinaryOp::AtLeast),
-            9 => Some(BinaryOp::Add),
-            10 => Some(BinaryOp::Sub),
-            11 => Some(BinaryOp::Mul),
-            12 => Some(BinaryOp::Div),
-            13 => Some(BinaryOp::Rem),
-            14 => Some(BinaryOp::BitOr),
-            15 => Some(BinaryOp::BitAnd),
-            16 => Some(BinaryOp::Shl),
-            17 => Some(BinaryOp::Shr),
-            18 => Some(BinaryOp::BitClear),
-            19 => Some(BinaryOp::BitXor),
-            _ => None,
+            1 => Ok(BinaryOp::Or),
+            2 => Ok(BinaryOp::And),
+            3 => Ok(BinaryOp::Equal),
+            4 => Ok(BinaryOp::NotEqual),
+            5 => Ok(BinaryOp::Less),
+            6 => Ok(BinaryOp::AtMost),
+            7 => Ok(BinaryOp::Greater),
+            8 => Ok(BinaryOp::AtLeast),
+            9 => Ok(BinaryOp::Add),
+            10 => Ok(BinaryOp::Sub),
+            11 => Ok(BinaryOp::Mul),
+            12 => Ok(BinaryOp::Div),
+            13 => Ok(BinaryOp::Rem),
+            14 => Ok(BinaryOp::BitOr),
+            15 => Ok(BinaryOp::BitAnd),
+            16 => Ok(BinaryOp::Shl),
+            17 => Ok(BinaryOp::Shr),
+            18 => Ok(BinaryOp::BitClear),
+            19 => Ok(BinaryOp::BitXor),
+            _ => Err(NotListed),
         }
     }
 }
@@ -167,7 +179,8 @@ fn line(number: u8, form: Form, class: Class) -> About
 }
 
 impl Kind {
-    // The kind that a record's first two bytes stand for. The second is read only where the kind has operators.
+    // The kind that a record's first two bytes stand for. The second is read only where the kind has operators, so this
+    // is no `TryFrom` of one value.
     pub fn of(number: u8, op: u8) -> Option<Kind>
         ensures { result ≡ kind_of number op }
     {
@@ -200,8 +213,8 @@ impl Kind {
             51 => Some(Kind::Rune),
             52 => Some(Kind::Str),
             53 => Some(Kind::Ident),
-            54 => Some(Kind::Unary(UnaryOp::of(op)?)),
-            55 => Some(Kind::Binary(BinaryOp::of(op)?)),
+            54 => UnaryOp::try_from(op).ok().map(Kind::Unary),
+            55 => BinaryOp::try_from(op).ok().map(Kind::Binary),
             56 => Some(Kind::Call),
             57 => Some(Kind::Index),
             58 => Some(Kind::Select),
@@ -254,7 +267,7 @@ impl Kind {
         }
     }
 
-    // Whether two kinds have the same number: operators do not count.
+    // Whether two kinds have the same number, as the definitions have it: operators do not count, as they do in `==`.
     pub fn is(self, other: Kind) -> bool
         ensures { result ≡ same_kind self other }
     {

@@ -4,13 +4,18 @@
 mod bytes;
 mod kind;
 mod opened;
+mod place;
+mod places;
 mod record;
+mod slices;
 mod view;
 
 pub use bytes::{
     HEADER_SIZE, Header, MOST_BYTES, MOST_RECORDS, MOST_TEXT, RECORD_SIZE, RECORD_SLOTS, Rec, open,
 };
-pub use kind::{About, BinaryOp, Class, Form, Kind, UnaryOp};
+pub use kind::{About, BinaryOp, Class, Form, Kind, NotListed, UnaryOp};
 pub use opened::Opened;
-pub use record::{Kinded, Node, Record, Shape};
+pub use place::{Chain, Place, Places};
+pub use record::{Kinded, Node, Record};
+pub use slices::part;
 pub use view::{links_up, listed_kind, rec_kind, text_fits};

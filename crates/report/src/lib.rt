@@ -3,7 +3,6 @@
 
 mod line;
 mod verdict;
-mod write;
 
 pub use line::Line;
 pub use verdict::verdict_line;

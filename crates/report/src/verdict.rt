@@ -1,12 +1,12 @@
-// What check says of a script, as one line.
+// What check says of a script, as one line. (By `write!` it could fail, and its contract does not say when.)
 ghost use Rattle.std.specs.Prelude.{◌≡◌};
-ghost use Rattle.report.specs.Lines.{written, verdict_line};
+ghost use Rattle.report.specs.Lines.{verdict_line};
 
 use crate::line::Line;
 use faults::{CheckFault, Named};
 
 pub fn verdict_line(answer: Result<(), CheckFault>) -> Line
-    ensures { written result ≡ verdict_line answer }
+    ensures { result ≡ verdict_line answer }
 {
     let mut line = Line::new();
     match answer {

@@ -6,9 +6,14 @@ use Rattle.std.proofs.lemmas.Bool.{cases_eq}
 use Rattle.records.specs.Bytes.{rec_at, count}
 use Rattle.records.specs.Records.{links_up}
 use Rattle.records.specs.declared.bytes.Rec.{Rec}
-use Rattle.rules.specs.Links.{counted, hits, links_to, AllLeadUp, Leads}
+use Rattle.rules.specs.Links.{counted, hits, links_to, AllLeadUp}
 
--- links that lead up stay within the file
+-- the fields of a record whose links lead up, which stay within the file
+pub record Leads (f : List ℕ) (r : ℕ) (rec : Rec) : Type 0 where
+  pub rec_is : rec ≡ rec_at f r
+  pub first_in : rec.first < 2048
+  pub next_in : rec.next < 2048
+
 pub leads : (f : List ℕ) (n r : ℕ) (rec : Rec) → n ≡ count f → n ≤ 2047 → AllLeadUp f n → 1 ≤ r → r ≤ n → rec ≡ rec_at f r → Leads f r rec
 leads f n r rec en few up h k e =
     let v : links_up n r rec ≡ true = rw (e, en) (up r h k) in

@@ -1,3 +1,4 @@
 pub mod Counts
 pub mod Deepens
 mod Marks
+pub mod Runs

@@ -1,6 +1,7 @@
 -- The rule that each record has its listed children.
-use Rattle.std.specs.Prelude.{ℕ, zero, suc, ◌+◌, Bool, true, false, not, ◌&&◌, ◌||◌, List, Some, None, Option, ◌==◌}
+use Rattle.std.specs.Prelude.{◌≡◌, ℕ, zero, suc, ◌+◌, ◌<◌, Bool, true, false, not, ◌&&◌, ◌||◌, List, Some, None, Option, ◌==◌, slice_index_or}
 use Rattle.records.specs.declared.kind.Kind.{Kind}
+use Rattle.records.specs.declared.place.Chain.{Chain}
 use Rattle.records.specs.declared.kind.Kind.TheVariants.{Program, List as ListKind}
 use Rattle.records.specs.Kinds.{same_kind}
 use Rattle.records.specs.Bytes.{count}
@@ -9,6 +10,10 @@ use Rattle.records.specs.Trees.{Tree, none, node, kind_tree}
 use Rattle.rules.specs.declared.grammar.Sort.{Sort}
 use Rattle.rules.specs.declared.grammar.Children.{Children}
 use Rattle.rules.specs.Grammar.{admits, contents, children_of, slot, ends, fills}
+
+-- the tree of a chain's records
+abbrev pub chained : Chain → Tree
+chained c = kind_tree c.over.file.now c.at
 
 -- each record of a chain is of the sort
 abbrev pub each : Sort → Tree → Bool
@@ -56,6 +61,10 @@ among k (node r said first next) = r == k || among k next
 abbrev pub wants : ℕ → Tree → Bool
 wants k none = false
 wants k (node r said first next) = fills (kind_in said) && among k first
+
+-- the marks of the records are those before, and those of which `more` says so
+abbrev pub Marked : (ℕ → Bool) → List Bool → List Bool → Type 0
+Marked more before after = (k : ℕ) → k < 2048 → slice_index_or after k false ≡ (slice_index_or before k false || more k)
 
 -- whether one of the records up to p wants that of the record k
 abbrev pub must_fill : List ℕ → ℕ → ℕ → Bool

@@ -1,5 +1,5 @@
 -- How deep a record stands: the program at 1, a child one deeper than its parent, the next child as deep as the one before.
-use Rattle.std.specs.Prelude.{ℕ, zero, suc, ◌+◌, ◌-◌, max, Bool, cond, List, ◌==◌, nat_le, slice_index, slice_set}
+use Rattle.std.specs.Prelude.{ℕ, zero, suc, ◌+◌, ◌-◌, max, Bool, cond, List, replicate, ◌==◌, nat_le, slice_index, slice_set}
 use Rattle.records.specs.Bytes.{rec_at}
 
 abbrev pub most_depth : ℕ
@@ -16,6 +16,10 @@ depth f r = depth_by f (r - 1) r
 
 abbrev pub shallow : List ℕ → ℕ → Bool
 shallow f r = nat_le (depth f r) most_depth
+
+-- a slot for each record, before any link is followed
+abbrev pub start : List ℕ
+start = slice_set (replicate 2048 0) 1 1
 
 -- k stands at d or deeper
 abbrev pub deepened : List ℕ → ℕ → ℕ → List ℕ

@@ -10,32 +10,36 @@ use Rattle.rules.specs.declared.grammar.Sort.TheVariants.{Nothing, Anything, Dec
 use Rattle.rules.specs.declared.grammar.Children.{Children}
 use Rattle.rules.specs.declared.grammar.Children.TheVariants.{Leaf, One, Two, Three, Four, Any, Many}
 
-abbrev pub in_type : Class → Bool
-in_type Types = true
-in_type Statements = false
-in_type Expressions = false
-in_type Others = false
+-- whether two classes are the same
+abbrev pub same_class : Class → Class → Bool
+same_class Types Types = true
+same_class Types Statements = false
+same_class Types Expressions = false
+same_class Types Others = false
+same_class Statements Types = false
+same_class Statements Statements = true
+same_class Statements Expressions = false
+same_class Statements Others = false
+same_class Expressions Types = false
+same_class Expressions Statements = false
+same_class Expressions Expressions = true
+same_class Expressions Others = false
+same_class Others Types = false
+same_class Others Statements = false
+same_class Others Expressions = false
+same_class Others Others = true
+
+abbrev pub is_in : Class → Kind → Bool
+is_in class k = same_class class (about k).class
 
 abbrev pub is_type : Kind → Bool
-is_type k = in_type (about k).class
-
-abbrev pub in_expr : Class → Bool
-in_expr Types = false
-in_expr Statements = false
-in_expr Expressions = true
-in_expr Others = false
+is_type = is_in Types
 
 abbrev pub is_expr : Kind → Bool
-is_expr k = in_expr (about k).class
-
-abbrev pub in_statement : Class → Bool
-in_statement Types = false
-in_statement Statements = true
-in_statement Expressions = false
-in_statement Others = false
+is_expr = is_in Expressions
 
 abbrev pub is_statement : Kind → Bool
-is_statement k = in_statement (about k).class
+is_statement = is_in Statements
 
 -- whether a record of kind k may stand at a place of the sort, after one of the kind `before`
 abbrev pub admits : Sort → Kind → Kind → Bool

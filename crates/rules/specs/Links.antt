@@ -1,7 +1,6 @@
 -- Two rules about links: they lead up, and each record from the second on is linked exactly once.
-use Rattle.std.specs.Prelude.{◌≡◌, ℕ, zero, suc, ◌+◌, ◌<◌, ◌≤◌, min, Bool, true, cond, List, ◌==◌, slice_index, slice_set}
+use Rattle.std.specs.Prelude.{◌≡◌, ℕ, zero, suc, ◌+◌, ◌≤◌, min, Bool, true, cond, List, ◌==◌, slice_index, slice_set}
 use Rattle.records.specs.Bytes.{count, rec_at}
-use Rattle.records.specs.declared.bytes.Rec.{Rec}
 use Rattle.records.specs.Records.{links_up}
 
 abbrev pub lead_up : List ℕ → ℕ → Bool
@@ -10,12 +9,6 @@ lead_up f r = links_up (count f) r (rec_at f r)
 -- all links of the first n records lead up
 abbrev pub AllLeadUp : List ℕ → ℕ → Type 0
 AllLeadUp f n = (k : ℕ) → 1 ≤ k → k ≤ n → lead_up f k ≡ true
-
--- the fields of such a record
-pub record Leads (f : List ℕ) (r : ℕ) (rec : Rec) : Type 0 where
-  pub rec_is : rec ≡ rec_at f r
-  pub first_in : rec.first < 2048
-  pub next_in : rec.next < 2048
 
 -- 1 where a link is to k
 abbrev pub hits : ℕ → ℕ → ℕ

@@ -1,139 +1,127 @@
 // Each record has the children that are listed for its kind.
-ghost use Rattle.std.specs.Prelude.{◌≡◌, ℕ, ◌<◌, ◌≤◌, false, not, ◌&&◌, ◌||◌, length, slice_index_or};
+ghost use Rattle.std.specs.Prelude.{◌≡◌, ℕ, ◌<◌, false, not, ◌&&◌, ◌||◌, slice_index_or};
+ghost use Rattle.std.specs.Result.{result_err};
 ghost use Rattle.records.specs.Kinds.{same_kind};
 ghost use Rattle.records.specs.declared.kind.Kind.TheVariants.{Program, List as ListKind};
 ghost use Rattle.records.specs.Trees.{kind_tree};
 ghost use Rattle.rules.specs.First.{First};
-ghost use Rattle.rules.specs.Children.{each, within as within_of, fit, among, wants, must_fill, is_none, has_children, children_fit};
+ghost use Rattle.rules.specs.Children.{chained, each, within as within_of, fit, among, wants, Marked, must_fill, is_none, has_children, children_fit};
 
+use crate::first::all_keep;
 use crate::grammar::{Children, Sort, fills_lists};
-use records::{Kind, Opened, RECORD_SLOTS, Shape};
+use records::{Chain, Kind, Node, Opened, Place, RECORD_SLOTS};
 
-// Whether each record of the chain that begins at `first` is of the sort.
-fn all_of(s: Opened, sort: Sort, first: u16) -> bool
-    ensures { result ≡ each sort (kind_tree s.entry.file.now first) }
+// Whether each record of the chain is of the sort.
+fn all_of(chain: Chain, sort: Sort) -> bool
+    ensures { result ≡ each sort (chained chain.entry) }
 {
-    let mut at = first;
-    while let Some(shape) = s.shape(at) {
-        if !sort.admits(shape.kind, shape.kind) {
+    for (_, child) in chain {
+        if !sort.admits(child.record, child.record) {
             return false;
         }
-        at = shape.next;
     }
     true
 }
 
 // Whether the chain below a record at a place of the sort may stand there.
-fn holds(s: Opened, sort: Sort, first: u16) -> bool
-    ensures { result ≡ within_of sort (kind_tree s.entry.file.now first) }
+fn holds(chain: Chain, sort: Sort) -> bool
+    ensures { result ≡ within_of sort (chained chain.entry) }
 {
     match sort.contents() {
-        Some(inner) => all_of(s, inner, first),
+        Some(inner) => all_of(chain, inner),
         None => true,
     }
 }
 
-// Whether the chain that begins at `first` has the children of a record of this kind.
-fn fits(s: Opened, line: Children, kind: Kind, first: u16) -> bool
-    ensures { result ≡ fit line 0 kind (kind_tree s.entry.file.now first) }
+// Whether the chain has the children of a record of this kind. The count is kept by hand: it is asked for once more
+// when the chain has ended, where `enumerate` has none.
+fn fits(chain: Chain, line: Children, kind: Kind) -> bool
+    ensures { result ≡ fit line 0 kind (chained chain.entry) }
 {
-    let mut at = first;
-    let mut i = 0;
+    let mut count = 0;
     let mut before = kind;
-    while let Some(shape) = s.shape(at) {
-        let sort = line.slot(i);
-        if !sort.admits(before, shape.kind) || !holds(s, sort, shape.first) {
+    for (_, child) in chain {
+        let sort = line.slot(count);
+        let below = chain.over.chain(child.first);
+        if !sort.admits(before, child.record) || !holds(below, sort) {
             return false;
         }
-        at = shape.next;
-        i += 1;
-        before = shape.kind;
+        count += 1;
+        before = child.record;
     }
-    line.ends(i)
+    line.ends(count)
 }
 
-// Marks the records of the chain that begins at `first`.
-fn mark_chain(s: Opened, first: u16, marks: &mut [bool])
-    requires { length marks.old ≡ 2048 }
-    ensures { (k : ℕ) → k < 2048 → slice_index_or marks.new k false ≡ (slice_index_or marks.old k false || among k (kind_tree s.entry.file.now first)) }
+// Marks the records of the chain. (The marks are a slot for each record, since nothing is allocated.)
+fn mark_chain(chain: Chain, marks: &mut [bool; RECORD_SLOTS])
+    ensures { Marked (λ k. among k (chained chain.entry)) marks.old marks.new }
 {
-    let mut at = first;
-    while let Some(shape) = s.shape(at) {
-        marks[at as usize] = true;
-        at = shape.next;
+    for (r, _) in chain {
+        marks[usize::from(r)] = true;
     }
 }
 
-// Marks the children of the record `p`, where its lists must not be empty.
-fn mark_owned(s: Opened, p: u16, marks: &mut [bool])
-    requires { length marks.old ≡ 2048 }
-    ensures { (k : ℕ) → k < 2048 → slice_index_or marks.new k false ≡ (slice_index_or marks.old k false || wants k (kind_tree s.entry.file.now p)) }
+// Marks the children of a record, where its lists must not be empty.
+fn mark_owned(place: Place, marks: &mut [bool; RECORD_SLOTS])
+    ensures { Marked (λ k. wants k (kind_tree place.entry.over.file.now place.entry.r)) marks.old marks.new }
 {
-    let Some(shape) = s.shape(p) else {
-        return;
-    };
-    if fills_lists(shape.kind) {
-        mark_chain(s, shape.first, marks);
+    if let Some(parent) = place.over.shape(place.r) {
+        if fills_lists(parent.record) {
+            mark_chain(place.over.chain(parent.first), marks);
+        }
     }
 }
 
-// Marks the lists that must not be empty.
-fn mark_lists(s: Opened, marks: &mut [bool])
-    requires long { length marks.old ≡ 2048 }
-    requires none { (k : ℕ) → k < 2048 → slice_index_or marks.old k false ≡ false }
-    ensures { (k : ℕ) → k < 2048 → slice_index_or marks.new k false ≡ must_fill s.entry.file.now s.entry.n k }
+// Which records must not be empty as lists.
+fn full_lists(s: Opened) -> [bool; RECORD_SLOTS]
+    ensures { (k : ℕ) → k < 2048 → slice_index_or result k false ≡ must_fill s.entry.file.now s.entry.n k }
 {
-    for p in 0..s.n {
-        mark_owned(s, p + 1, marks);
+    let mut marks = [false; RECORD_SLOTS];
+    for place in s.places(1) {
+        mark_owned(place, &mut marks);
     }
+    marks
 }
 
 // Whether the first record is the program, with nothing beside it.
-fn is_root(s: Opened, shape: Shape) -> bool
-    ensures { result ≡ (same_kind shape.kind Program && is_none (kind_tree s.entry.file.now shape.next)) }
+fn is_root(s: Opened, shape: Node<Kind>) -> bool
+    ensures { result ≡ (same_kind shape.«record» Program && is_none (kind_tree s.entry.file.now shape.next)) }
 {
-    shape.kind.is(Kind::Program) && s.shape(shape.next).is_none()
+    shape.record.is(Kind::Program) && s.shape(shape.next).is_none()
 }
 
 // Whether a record is no list, or one that is not empty.
-fn is_filled(s: Opened, shape: Shape) -> bool
-    ensures { result ≡ (not (same_kind shape.kind ListKind) || not (is_none (kind_tree s.entry.file.now shape.first))) }
+fn is_filled(s: Opened, shape: Node<Kind>) -> bool
+    ensures { result ≡ (not (same_kind shape.«record» ListKind) || not (is_none (kind_tree s.entry.file.now shape.first))) }
 {
-    !shape.kind.is(Kind::List) || s.shape(shape.first).is_some()
+    !shape.record.is(Kind::List) || s.shape(shape.first).is_some()
 }
 
-// Whether the record `r` has its children; `full` says that as a list it must not be empty.
-fn has_children(s: Opened, r: u16, full: bool) -> bool
-    ensures { result ≡ has_children r full (kind_tree s.entry.file.now r) }
+// Whether the record has its children; `full` says that as a list it must not be empty.
+fn has_children(place: Place, full: bool) -> bool
+    ensures { result ≡ has_children place.entry.r full (kind_tree place.entry.over.file.now place.entry.r) }
 {
-    let Some(shape) = s.shape(r) else {
+    let s = place.over;
+    let Some(shape) = s.shape(place.r) else {
         return false;
     };
-    fits(s, Children::of(shape.kind), shape.kind, shape.first)
-        && (r != 1 || is_root(s, shape))
+    fits(
+        s.chain(shape.first),
+        Children::of(shape.record),
+        shape.record,
+    ) && (place.r != 1 || is_root(s, shape))
         && (!full || is_filled(s, shape))
 }
 
-// The same, where `full` says of each record whether it must not be empty as a list.
-fn children_listed(s: Opened, r: u16, full: &[bool]) -> bool
-    requires long { length full.now ≡ 2048 }
-    requires marked { (k : ℕ) → k < 2048 → slice_index_or full.now k false ≡ must_fill s.file.now s.n k }
-    requires within { r ≤ s.n }
-    ensures { result ≡ children_fit s.entry.file.now r }
+// Whether all records have their children, or else the lowest that has not.
+pub fn all_have_children(s: Opened) -> Result<(), u16>
+    ensures { First (children_fit s.entry.file.now) 1 s.entry.n (result_err result) }
 {
-    has_children(s, r, full[r as usize])
-}
-
-// The lowest record whose children are not as listed.
-pub fn bad_children(s: Opened) -> Option<u16>
-    ensures { First (children_fit s.entry.file.now) 1 s.entry.n result }
-{
-    let mut full = [false; RECORD_SLOTS];
-    mark_lists(s, &mut full);
-    for r in 1..=s.n {
-        if !children_listed(s, r, &full) {
-            return Some(r);
-        }
-    }
-    None
+    let full = full_lists(s);
+    all_keep(
+        s.places(1),
+        |place|
+            ensures { result ≡ has_children place.entry.r (slice_index_or full place.entry.r false) (kind_tree place.entry.over.file.now place.entry.r) }
+        { has_children(place, full[usize::from(place.r)]) },
+    )
 }

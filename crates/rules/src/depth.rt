@@ -1,11 +1,11 @@
 // No record stands deeper than a script may go.
-ghost use Rattle.std.specs.Prelude.{◌≡◌, ◌<◌, ◌≤◌, length, nat_lt, slice_index};
+ghost use Rattle.std.specs.Prelude.{◌≡◌, ◌<◌, nat_lt, slice_index};
+ghost use Rattle.std.specs.Result.{result_err};
 ghost use Rattle.rules.specs.First.{First};
-ghost use Rattle.rules.specs.Links.{AllLeadUp};
-ghost use Rattle.rules.specs.Depths.{most_depth, shallow, deepened, passed};
+ghost use Rattle.rules.specs.Depths.{most_depth, shallow, start, deepened, passed};
 
-use crate::links::leading;
-use records::{Opened, RECORD_SLOTS};
+use crate::linked::Linked;
+use records::{Place, RECORD_SLOTS};
 
 pub const MOST_DEPTH: u8 = 64;
 
@@ -15,42 +15,49 @@ fn deep(d: u8) -> bool
     d > MOST_DEPTH
 }
 
+// The depths before any link is followed: the first record stands at 1, nothing is known of the others. A slot for each
+// record, since nothing is allocated.
+pub fn start_depths() -> [u8; RECORD_SLOTS]
+    ensures { result ≡ start }
+{
+    let mut depths = [0; RECORD_SLOTS];
+    depths[1] = 1;
+    depths
+}
+
 // The record `k` stands at the depth `d` or deeper.
-fn deepen(depths: &mut [u8], k: u16, d: u8)
-    requires { k < length depths.old }
+fn deepen(depths: &mut [u8; RECORD_SLOTS], k: u16, d: u8)
+    requires { k < 2048 }
     ensures { depths.new ≡ deepened depths.old k d }
 {
-    let k = k as usize;
+    let k = usize::from(k);
     depths[k] = depths[k].max(d);
 }
 
-// The record `r` passes its depth on to the records that it links to.
-pub fn pass_depth(s: Opened, r: u16, depths: &mut [u8])
-    requires up { AllLeadUp s.file.now s.n }
-    requires from { 1 ≤ r }
-    requires within { r ≤ s.n }
-    requires long { length depths.old ≡ 2048 }
-    requires low { slice_index depths.old r < 255 }
-    ensures { depths.new ≡ passed s.entry.file.now r depths.old }
-{
-    let d = depths[r as usize];
-    let rec = leading(s, r);
-    deepen(depths, rec.first, d + 1);
-    deepen(depths, rec.next, d);
+impl<'a> Linked<'a> {
+    // One of its records passes its depth on to the records that it links to.
+    pub fn pass_depth(self, place: Place<'a>, depths: &mut [u8; RECORD_SLOTS])
+        requires here { place.over ≡ self.over }
+        requires low { slice_index depths.old place.r < 255 }
+        ensures { depths.new ≡ passed self.entry.over.file.now place.entry.r depths.old }
+    {
+        let d = depths[usize::from(place.r)];
+        let rec = place.fields();
+        deepen(depths, rec.first, d + 1);
+        deepen(depths, rec.next, d);
+    }
 }
 
-// The lowest record that stands too deep.
-pub fn too_deep(s: Opened) -> Option<u16>
-    requires { AllLeadUp s.file.now s.n }
-    ensures { First (shallow s.entry.file.now) 1 s.entry.n result }
+// Whether no record stands too deep, or else the lowest that does.
+pub fn all_shallow(s: Linked) -> Result<(), u16>
+    ensures { First (shallow s.entry.over.file.now) 1 s.entry.over.n (result_err result) }
 {
-    let mut depths = [0u8; RECORD_SLOTS];
-    depths[1] = 1;
-    for r in 0..s.n {
-        if deep(depths[r as usize + 1]) {
-            return Some(r + 1);
+    let mut depths = start_depths();
+    for place in s.over.places(1) {
+        if deep(depths[usize::from(place.r)]) {
+            return Err(place.r);
         }
-        pass_depth(s, r + 1, &mut depths);
+        s.pass_depth(place, &mut depths);
     }
-    None
+    Ok(())
 }

@@ -1,11 +1,11 @@
 // Which children each kind of record has.
 ghost use Rattle.std.specs.Prelude.{◌≡◌};
-ghost use Rattle.rules.specs.Grammar.{admits as admits_of, contents as contents_of, children_of, slot as slot_of, ends as ends_at, is_type, is_expr, is_statement, pick as pick_of, fills};
+ghost use Rattle.rules.specs.Grammar.{admits as admits_of, contents as contents_of, children_of, slot as slot_of, ends as ends_at, is_in, pick as pick_of, fills};
 
 use records::{Class, Kind};
 
 // What may stand at one place among a record's children.
-#[derive(Clone, Copy)]
+#[derive(Clone, Copy, Debug, PartialEq, Eq)]
 pub enum Sort {
     // no child at all
     Nothing,
@@ -38,8 +38,9 @@ pub enum Sort {
     Exprs,
 }
 
-// The children of a record: so many, each of its sort, or any number of one sort, or at least one of it.
-#[derive(Clone, Copy)]
+// The children of a record: so many, each of its sort, or any number of one sort, or at least one of it. The counts
+// are cases of their own: a slice of sorts would be a reference, and a clause takes no two references for the same.
+#[derive(Clone, Copy, Debug, PartialEq, Eq)]
 pub enum Children {
     Leaf,
     One(Sort),
@@ -50,31 +51,10 @@ pub enum Children {
     Many(Sort),
 }
 
-fn is_type(kind: Kind) -> bool
-    ensures { result ≡ is_type kind }
+fn is_in(kind: Kind, class: Class) -> bool
+    ensures { result ≡ is_in class kind }
 {
-    match kind.about().class {
-        Class::Types => true,
-        Class::Statements | Class::Expressions | Class::Others => false,
-    }
-}
-
-fn is_expr(kind: Kind) -> bool
-    ensures { result ≡ is_expr kind }
-{
-    match kind.about().class {
-        Class::Expressions => true,
-        Class::Types | Class::Statements | Class::Others => false,
-    }
-}
-
-fn is_statement(kind: Kind) -> bool
-    ensures { result ≡ is_statement kind }
-{
-    match kind.about().class {
-        Class::Statements => true,
-        Class::Types | Class::Expressions | Class::Others => false,
-    }
+    kind.about().class == class
 }
 
 impl Sort {
@@ -89,15 +69,16 @@ impl Sort {
                 || kind.is(Kind::TypeDecl)
                 || kind.is(Kind::Func),
             Sort::Name => kind.is(Kind::Name),
-            Sort::TypeTerm => is_type(kind),
-            Sort::TypeOrAbsent => is_type(kind) || kind.is(Kind::Absent),
-            Sort::Expr => is_expr(kind),
-            Sort::ExprOrAbsent => is_expr(kind) || kind.is(Kind::Absent),
-            Sort::Value => is_expr(kind) || kind.is(Kind::Absent) && !before.is(Kind::Absent),
+            Sort::TypeTerm => is_in(kind, Class::Types),
+            Sort::TypeOrAbsent => is_in(kind, Class::Types) || kind.is(Kind::Absent),
+            Sort::Expr => is_in(kind, Class::Expressions),
+            Sort::ExprOrAbsent => is_in(kind, Class::Expressions) || kind.is(Kind::Absent),
+            Sort::Value => is_in(kind, Class::Expressions)
+                || kind.is(Kind::Absent) && !before.is(Kind::Absent),
             Sort::Params => kind.is(Kind::Params),
             Sort::Param => kind.is(Kind::Param),
             Sort::Field => kind.is(Kind::Field),
-            Sort::Statement => is_statement(kind),
+            Sort::Statement => is_in(kind, Class::Statements),
             Sort::Block => kind.is(Kind::Block),
             Sort::Init => kind.is(Kind::ExprStmt)
                 || kind.is(Kind::ShortDecl)
@@ -118,30 +99,13 @@ impl Sort {
         match self {
             Sort::Names => Some(Sort::Name),
             Sort::Exprs => Some(Sort::Expr),
-            Sort::Nothing
-            | Sort::Anything
-            | Sort::Declaration
-            | Sort::Name
-            | Sort::TypeTerm
-            | Sort::TypeOrAbsent
-            | Sort::Expr
-            | Sort::ExprOrAbsent
-            | Sort::Value
-            | Sort::Params
-            | Sort::Param
-            | Sort::Field
-            | Sort::Statement
-            | Sort::Block
-            | Sort::Init
-            | Sort::Post
-            | Sort::Else
-            | Sort::Ident => None,
+            _ => None,
         }
     }
 }
 
 impl Children {
-    // The children that a record of this kind has.
+    // The children that a record of this kind has: a table, not another form of the kind.
     pub fn of(kind: Kind) -> Children
         ensures { result ≡ children_of kind }
     {
@@ -218,13 +182,10 @@ impl Children {
 fn pick(i: u16, a: Sort, b: Sort, c: Sort, d: Sort) -> Sort
     ensures { result ≡ pick_of i a b c d }
 {
-    match i {
-        0 => a,
-        1 => b,
-        2 => c,
-        3 => d,
-        _ => Sort::Nothing,
-    }
+    [a, b, c, d]
+        .get(usize::from(i))
+        .copied()
+        .unwrap_or(Sort::Nothing)
 }
 
 // Whether the lists of a record of this kind must not be empty.

@@ -5,39 +5,29 @@ ghost use Rattle.rules.specs.Rules.{RecordsVerdict};
 
 mod children;
 mod depth;
+mod first;
 mod grammar;
+mod linked;
 mod links;
 mod words;
 
-use children::bad_children;
-pub use depth::pass_depth;
-use depth::too_deep;
+use children::all_have_children;
+use depth::all_shallow;
+pub use depth::start_depths;
 use faults::FileFault;
-use links::{bad_link, not_once};
+pub use linked::Linked;
+use links::all_linked_once;
 use records::Opened;
-use words::{bad_text, unlisted};
+use words::{all_inside, all_listed};
 
 // The first rule that a record of the file breaks, and the lowest record that breaks it: one pass a rule.
 pub fn keep_rules(s: Opened) -> Result<(), FileFault>
     ensures { RecordsVerdict s.entry.file.now s.entry.n result }
 {
-    if let Some(at) = bad_link(s) {
-        return Err(FileFault::Link(at));
-    }
-    if let Some(at) = not_once(s) {
-        return Err(FileFault::Linked(at));
-    }
-    if let Some(at) = too_deep(s) {
-        return Err(FileFault::Deep(at));
-    }
-    if let Some(at) = unlisted(s) {
-        return Err(FileFault::Unlisted(at));
-    }
-    if let Some(at) = bad_children(s) {
-        return Err(FileFault::Children(at));
-    }
-    if let Some(at) = bad_text(s) {
-        return Err(FileFault::Text(at));
-    }
-    Ok(())
+    let linked = Linked::new(s).map_err(FileFault::Link)?;
+    all_linked_once(linked).map_err(FileFault::Linked)?;
+    all_shallow(linked).map_err(FileFault::Deep)?;
+    all_listed(s).map_err(FileFault::Unlisted)?;
+    all_have_children(s).map_err(FileFault::Children)?;
+    all_inside(s).map_err(FileFault::Text)
 }

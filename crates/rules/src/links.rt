@@ -1,65 +1,69 @@
 // Links lead up, and each record from the second on is linked exactly once.
-ghost use Rattle.std.specs.Prelude.{◌≡◌, ℕ, ◌<◌, ◌≤◌, min, length, slice_index};
+ghost use Rattle.std.specs.Prelude.{◌≡◌, ℕ, ◌<◌, ◌≤◌, min, length, ◌==◌, slice_index, IfOk};
+ghost use Rattle.std.specs.Result.{result_err};
 ghost use Rattle.rules.specs.First.{First};
-ghost use Rattle.rules.specs.Links.{lead_up, AllLeadUp, Leads, links_to, linked_once, counted};
+ghost use Rattle.rules.specs.Links.{lead_up, links_to, linked_once, counted};
 
-use records::{Opened, RECORD_SLOTS, Rec, links_up};
+use crate::first::all_keep;
+use crate::linked::Linked;
+use records::{Opened, Place, RECORD_SLOTS, links_up};
 
-// The lowest record that has a link which does not lead up.
-pub fn bad_link(s: Opened) -> Option<u16>
-    ensures { First (lead_up s.entry.file.now) 1 s.entry.n result }
+// Whether the links of the record lead up.
+fn leads_up(place: Place) -> bool
+    ensures { result ≡ lead_up place.entry.over.file.now place.entry.r }
 {
-    for r in 1..=s.n {
-        if !links_up(s.n, r, s.fields(r)) {
-            return Some(r);
-        }
-    }
-    None
+    links_up(place.over.n, place.r, place.fields())
 }
 
-// The fields of the record `r`, whose links stay within the file.
-pub fn leading(s: Opened, r: u16) -> Rec
-    requires up { AllLeadUp s.file.now s.n }
-    requires from { 1 ≤ r }
-    requires within { r ≤ s.n }
-    ensures { Leads s.entry.file.now r result }
+// Whether all links lead up, or else the lowest record with one that does not.
+pub fn all_lead_up(s: Opened) -> Result<(), u16>
+    ensures { First (lead_up s.entry.file.now) 1 s.entry.n (result_err result) }
 {
-    s.fields(r)
+    all_keep(s.places(1), leads_up)
+}
+
+impl<'a> Linked<'a> {
+    // The file, where all its links lead up, or else the lowest record with one that does not.
+    pub fn new(s: Opened<'a>) -> Result<Linked<'a>, u16>
+        ensures file { IfOk result (λ linked. linked.over ≡ s.entry) }
+        ensures links { First (lead_up s.entry.file.now) 1 s.entry.n (result_err result) }
+    {
+        all_lead_up(s)?;
+        Ok(Linked { over: s })
+    }
 }
 
 // One more link to the record `k`; 255 stands for that many and more.
-fn count_link(counts: &mut [u8], k: u16)
-    requires { k < length counts.old }
+fn count_link(counts: &mut [u8; RECORD_SLOTS], k: u16)
+    requires { k < 2048 }
     ensures { counts.new ≡ counted counts.old k }
 {
-    let k = k as usize;
+    let k = usize::from(k);
     counts[k] = counts[k].saturating_add(1);
 }
 
-fn count_links(s: Opened, counts: &mut [u8])
-    requires up { AllLeadUp s.file.now s.n }
-    requires long { length counts.old ≡ 2048 }
-    requires none { (k : ℕ) → k < 2048 → slice_index counts.old k ≡ 0 }
-    ensures { (k : ℕ) → k < 2048 → slice_index counts.new k ≡ min 255 (links_to s.entry.file.now s.entry.n k) }
+// How many links lead to each record.
+fn count_links(s: Linked) -> [u8; RECORD_SLOTS]
+    ensures { (k : ℕ) → k < 2048 → slice_index result k ≡ min 255 (links_to s.entry.over.file.now s.entry.over.n k) }
 {
-    for r in 0..s.n {
-        let rec = leading(s, r + 1);
-        count_link(counts, rec.first);
-        count_link(counts, rec.next);
+    let mut counts = [0; RECORD_SLOTS];
+    for place in s.over.places(1) {
+        let rec = place.fields();
+        count_link(&mut counts, rec.first);
+        count_link(&mut counts, rec.next);
     }
+    counts
 }
 
-// The lowest record from the second on that is not linked exactly once.
-pub fn not_once(s: Opened) -> Option<u16>
-    requires { AllLeadUp s.file.now s.n }
-    ensures { First (linked_once s.entry.file.now) 2 s.entry.n result }
+// Whether each record from the second on is linked exactly once, or else the lowest that is not.
+pub fn all_linked_once(s: Linked) -> Result<(), u16>
+    ensures { First (linked_once s.entry.over.file.now) 2 s.entry.over.n (result_err result) }
 {
-    let mut counts = [0u8; RECORD_SLOTS];
-    count_links(s, &mut counts);
-    for r in 2..=s.n {
-        if counts[r as usize] != 1 {
-            return Some(r);
-        }
-    }
-    None
+    let counts = count_links(s);
+    all_keep(
+        s.over.places(2),
+        |place|
+            ensures { result ≡ (slice_index counts place.entry.r == 1) }
+        { counts[usize::from(place.r)] == 1 },
+    )
 }

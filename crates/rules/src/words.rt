@@ -1,29 +1,25 @@
 // Kinds, operators and runes are listed, and text parts lie in the text.
-ghost use Rattle.std.specs.Prelude.{◌≡◌, ◌≤◌};
+ghost use Rattle.std.specs.Prelude.{◌≡◌};
+ghost use Rattle.std.specs.Result.{result_err};
 ghost use Rattle.records.specs.Records.{listed_kind, text_by};
 ghost use Rattle.rules.specs.First.{First};
 ghost use Rattle.rules.specs.Rules.{kind_listed, text_inside};
 
-use records::{Opened, Rec, listed_kind, text_fits};
+use crate::first::all_keep;
+use records::{Opened, Place, Rec, listed_kind, text_fits};
 
-fn kind_listed(s: Opened, r: u16) -> bool
-    requires from { 1 ≤ r }
-    requires within { r ≤ s.n }
-    ensures { result ≡ kind_listed s.entry.file.now r }
+#[tactic(auto, unfolding(crate::specs::Rules::kind_listed))]
+fn kind_listed(place: Place) -> bool
+    ensures { result ≡ kind_listed place.entry.over.file.now place.entry.r }
 {
-    listed_kind(s.fields(r)).is_some()
+    listed_kind(place.fields()).is_some()
 }
 
-// The lowest record whose kind, operator or rune is not listed.
-pub fn unlisted(s: Opened) -> Option<u16>
-    ensures { First (kind_listed s.entry.file.now) 1 s.entry.n result }
+// Whether each record's kind, operator and rune are listed, or else the lowest of which that is not so.
+pub fn all_listed(s: Opened) -> Result<(), u16>
+    ensures { First (kind_listed s.entry.file.now) 1 s.entry.n (result_err result) }
 {
-    for r in 1..=s.n {
-        if !kind_listed(s, r) {
-            return Some(r);
-        }
-    }
-    None
+    all_keep(s.places(1), kind_listed)
 }
 
 fn text_by(t: u32, rec: Rec) -> bool
@@ -35,22 +31,16 @@ fn text_by(t: u32, rec: Rec) -> bool
     }
 }
 
-fn text_inside(s: Opened, r: u16) -> bool
-    requires from { 1 ≤ r }
-    requires within { r ≤ s.n }
-    ensures { result ≡ text_inside s.entry.file.now r }
+#[tactic(auto, unfolding(crate::specs::Rules::text_inside))]
+fn text_inside(place: Place) -> bool
+    ensures { result ≡ text_inside place.entry.over.file.now place.entry.r }
 {
-    text_by(s.t, s.fields(r))
+    text_by(place.over.t, place.fields())
 }
 
-// The lowest record whose text part reaches beyond the text, or that has an empty name.
-pub fn bad_text(s: Opened) -> Option<u16>
-    ensures { First (text_inside s.entry.file.now) 1 s.entry.n result }
+// Whether each text part lies in the text and no name is empty, or else the lowest record of which that is not so.
+pub fn all_inside(s: Opened) -> Result<(), u16>
+    ensures { First (text_inside s.entry.file.now) 1 s.entry.n (result_err result) }
 {
-    for r in 1..=s.n {
-        if !text_inside(s, r) {
-            return Some(r);
-        }
-    }
-    None
+    all_keep(s.places(1), text_inside)
 }

@@ -16,9 +16,9 @@ use Rattle.script.proofs.Bared.{inside_is, formed_at}
 use Rattle.script.proofs.Once.{listed_is, linked_at}
 
 -- past the ends nothing stands
-pub past : (f : List ℕ) (n r : ℕ) → n ≡ count f → (r ≡ 0) ⊎ ((r ≡ 0 → ⊥) × (n < r)) → (tree_at f r ≡ none) × (1 ≤ r → r ≤ n → ⊥)
+pub past : (f : List ℕ) (n r : ℕ) → n ≡ count f → (r ≡ 0) ⊎ (n < r) → (tree_at f r ≡ none) × (1 ≤ r → r ≤ n → ⊥)
 past f n r e h =
-    let out : 1 ≤ r → r ≤ n → ⊥ = λ a b. elim h [ inl z ↦ omega arith | inr q ↦ omega (arith, q.1) ] in
+    let out : 1 ≤ r → r ≤ n → ⊥ = λ a b. elim h [ inl z ↦ omega arith | inr q ↦ omega (arith, q) ] in
     let silent : said_at f r ≡ None = elim (cases_option (said_at f r)) [ inl s ↦ s | inr q ↦ (let u = said_up f r q.0 q.1 in absurd (out u.here (omega (arith, u.inside)))) ] in
     (tree_none f r silent, out)
 

@@ -4,3 +4,4 @@ pub mod Trees
 pub mod Depths
 pub mod Judged
 pub mod Samples
+pub mod Scripts

@@ -2,6 +2,7 @@
 use Rattle.std.specs.Prelude.{◌≡◌, ℕ, ◌+◌, ◌≤◌, max, Bool, true, ◌&&◌, List, Some, None, Option}
 use Rattle.records.specs.declared.record.Kinded.{Kinded}
 use Rattle.records.specs.declared.record.Node.{Node}
+use Rattle.records.specs.declared.record.Record.{Record}
 use Rattle.records.specs.Bytes.{count}
 use Rattle.records.specs.Kinds.{about}
 use Rattle.records.specs.Records.{seen, say_form, text_fits}
@@ -34,7 +35,7 @@ pub record WellFormed (f : List ℕ) : Type 0 where
   pub once : (k : ℕ) → 1 ≤ k → k ≤ count f → times k (tree_at f 1) ≡ 1
 
 -- what stands at r in such a file: a record with its listed children, and none only past the ends
-pub record Stands (f : List ℕ) (n r : ℕ) (nd : Node) : Type 0 where
+pub record Stands (f : List ℕ) (n r : ℕ) (nd : Node Record) : Type 0 where
   pub step : Step (tree_at f) n r (seen nd.«record») nd.first nd.next
   pub listed : formed (tree_at f r) ≡ true
 
@@ -44,6 +45,10 @@ pub record Known (f : List ℕ) (n t r : ℕ) (k : Kinded) : Type 0 where
   pub step : Step (tree_at f) n r (say_form f k.rec k.kind (about k.kind).form) k.rec.first k.rec.next
   pub listed : formed (tree_at f r) ≡ true
 
-abbrev pub At : List ℕ → ℕ → ℕ → Option Node → Type 0
+abbrev pub KnownAt : List ℕ → ℕ → ℕ → ℕ → Option Kinded → Type 0
+KnownAt f n t r None = (tree_at f r ≡ none) × (1 ≤ r → r ≤ n → ⊥)
+KnownAt f n t r (Some k) = Known f n t r k
+
+abbrev pub At : List ℕ → ℕ → ℕ → Option (Node Record) → Type 0
 At f n r None = (tree_at f r ≡ none) × (1 ≤ r → r ≤ n → ⊥)
 At f n r (Some nd) = Stands f n r nd

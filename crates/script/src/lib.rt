@@ -4,7 +4,9 @@
 ghost use Rattle.std.specs.Prelude.{◌≡◌, IfOk};
 ghost use Rattle.script.specs.Stages.{Stages};
 ghost use Rattle.script.specs.Judged.{Judged};
+ghost use Rattle.std.specs.Result.{result_map_both};
 ghost use Rattle.script.specs.Verdict.{lent_for, Verdict, OnlyVerdict, Readable};
+ghost use Rattle.script.specs.Scripts.{header_of};
 ghost use Rattle.script.specs.Trees.{WellFormed};
 ghost use Rattle.script.specs.Depths.{OneWay, DepthLaw};
 ghost use Rattle.script.specs.Samples.{Samples};
@@ -22,7 +24,7 @@ pub const LEAST_ENTRIES: usize = 2304;
 pub const LEAST_NAMES: usize = 256;
 
 // The lengths of what is lent for a check: notes, entries of the type table and name slots.
-#[derive(Clone, Copy)]
+#[derive(Clone, Copy, Debug, PartialEq, Eq)]
 pub struct Lengths {
     pub notes: usize,
     pub entries: usize,
@@ -42,7 +44,7 @@ fn lent_for(n: u16, lent: Lengths) -> bool
     n as usize <= lent.notes && LEAST_ENTRIES <= lent.entries && LEAST_NAMES <= lent.names
 }
 
-// One stage after the other.
+// One stage after the other. (A file and what is lent for it are the two things that a caller hands in, here and above.)
 fn stages(file: &[u8], lent: Lengths) -> Result<Header, FileFault>
     ensures { Stages file.now lent result }
 {
@@ -70,6 +72,16 @@ pub fn read(file: &[u8], lent: Lengths) -> Result<Header, FileFault>
     ensures depth { OneWay file.now → DepthLaw file.now }
 {
     judge(file, lent)
+}
+
+impl<'a> Script<'a> {
+    // Reads a file to walk over it: the script, if no rule is broken, else the first fault.
+    pub fn read(file: &'a [u8], lent: Lengths) -> Result<Script<'a>, FileFault>
+        ensures verdict { Verdict file.now lent (result_map_both header_of (λ e. e) result) }
+        ensures same { IfOk result (λ s. s.over.file ≡ file.entry) }
+    {
+        Ok(Script::new(file, read(file, lent)?))
+    }
 }
 
 // Some file can be read, and some cannot.

@@ -1,10 +1,10 @@
 // The walk over the records of a file that has been read.
-ghost use Rattle.std.specs.Prelude.{◌≡◌, ◌≤◌};
+ghost use Rattle.std.specs.Prelude.{◌≡◌};
 ghost use Rattle.script.specs.Verdict.{Readable};
-ghost use Rattle.script.specs.Trees.{At, Known};
+ghost use Rattle.script.specs.Trees.{At, KnownAt};
 
 use crate::script::Script;
-use records::{Header, Kinded, Node, Opened, rec_kind};
+use records::{Header, Kinded, Node, Opened, Record, rec_kind};
 
 impl<'a> Script<'a> {
     pub fn new(file: &'a [u8], header: Header) -> Script<'a>
@@ -16,32 +16,23 @@ impl<'a> Script<'a> {
         }
     }
 
-    // The fields and the kind of the record `r`.
-    fn kinded(self, r: u16) -> Kinded
-        requires from { 1 ≤ r }
-        requires within { r ≤ self.over.n }
-        ensures { Known self.entry.over.file.now self.entry.over.n self.entry.over.t r result }
+    // The fields and the kind of the record `r`, where the file has one of that number.
+    fn kinded(self, r: u16) -> Option<Kinded>
+        ensures { KnownAt self.entry.over.file.now self.entry.over.n self.entry.over.t r result }
     {
-        let rec = self.over.fields(r);
+        let rec = self.over.place(r)?.fields();
         let Some(kind) = rec_kind(rec) else {
             unreachable()
         };
-        Kinded { rec, kind }
+        Some(Kinded { rec, kind })
     }
 
     // The record `r`, and none where `r` is 0 or past the last.
-    pub fn node(self, r: u16) -> Option<Node<'a>>
+    pub fn node(self, r: u16) -> Option<Node<Record<'a>>>
         ensures { At self.entry.over.file.now self.entry.over.n r result }
     {
-        if r == 0 || r > self.over.n {
-            return None;
-        }
-        let Kinded { rec, kind } = self.kinded(r);
-        let record = self.over.spoken(rec, kind);
-        Some(Node {
-            record,
-            first: rec.first,
-            next: rec.next,
-        })
+        let kinded = self.kinded(r)?;
+        let record = self.over.spoken(kinded);
+        Some(Node::of(record, kinded.rec))
     }
 }

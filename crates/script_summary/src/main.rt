@@ -5,10 +5,9 @@
 ghost use Rattle.script_summary.specs.Answers.{Looked, Answers};
 
 use faults::{CheckFault, FileFault};
-use host::fill;
-use records::MOST_BYTES;
+use host::{ROOM, filled};
 use report::{Line, verdict_line};
-use script::{ENOUGH, Script, read};
+use script::{ENOUGH, Script};
 use std::io::Write;
 use summary::{Summary, summarize, summary_line};
 
@@ -23,8 +22,7 @@ struct Answer {
 fn look(file: &[u8]) -> Result<Summary, FileFault>
     ensures { Looked file.now result }
 {
-    let header = read(file, ENOUGH)?;
-    Ok(summarize(Script::new(file, header)))
+    Ok(summarize(Script::read(file, ENOUGH)?))
 }
 
 fn answer_to(file: &[u8]) -> Answer
@@ -42,12 +40,9 @@ fn answer_to(file: &[u8]) -> Answer
     }
 }
 
-const ROOM: usize = MOST_BYTES + 1;
-
 fn main(rt: HostRuntime) -> anyhow::Result<()> {
-    let mut file = vec![in rt.alloc(); 0u8; ROOM]?;
-    let len = fill(&mut rt.stdin(), file.as_mut_slice())?;
-    let answer = answer_to(&file[0..len]);
+    let mut room = vec![in rt.alloc(); 0u8; ROOM]?;
+    let answer = answer_to(filled(&mut rt.stdin(), &mut room)?);
     let mut out = rt.stdout();
     out.write_all(answer.verdict.as_slice())?;
     if let Some(line) = &answer.summary {

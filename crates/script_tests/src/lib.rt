@@ -23,13 +23,9 @@ pub fn plain(kind: u8, first: u16, next: u16) -> Rec {
 // The same with a text part.
 pub fn texted(kind: u8, next: u16, len: u16, at: u32) -> Rec {
     Rec {
-        kind,
-        op: 0,
-        first: 0,
-        next,
         len,
         at,
-        value: 0,
+        ..plain(kind, 0, next)
     }
 }
 
@@ -63,7 +59,7 @@ pub fn file_of(heap: Global, records: &[Rec], text: &[u8]) -> Result<Vec<u8>, Al
     Ok(file)
 }
 
-// The number and the record of an answer, both 0 where there is no fault.
+// The number and the record of an answer, both 0 where there is no fault: one pair, as a test names it.
 pub fn named(answer: Result<(), CheckFault>) -> (u8, u16) {
     match answer {
         Ok(()) => (0, 0),
@@ -88,7 +84,7 @@ pub fn verdict_lent(heap: Global, lent: Lengths) -> Result<(u8, u16), AllocError
     Ok(named(readable(file_of(heap, &sample(), TEXT)?.as_slice(), lent)))
 }
 
-// A file of `n` records, each the first child of the one before.
+// A file of `n` records, each the first child of the one before. (The numbers of the range are the links.)
 pub fn chain(heap: Global, n: u16) -> Result<Vec<Rec>, AllocError> {
     let mut records = Vec::new(heap);
     for r in 1..n {

@@ -1,2 +1,2 @@
-mod Parts
+pub mod Parts
 pub mod Laws

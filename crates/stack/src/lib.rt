@@ -4,7 +4,6 @@
 #![tactic(auto)]
 
 mod lent;
-mod moves;
 mod stack;
 
 pub use stack::{Full, Stack};

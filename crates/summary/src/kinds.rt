@@ -1,37 +1,36 @@
 // How many different kind numbers the records of a file have.
-ghost use Rattle.std.specs.Prelude.{◌≡◌, ℕ, ◌<◌, false, length, get_or, slice_index_or};
-ghost use Rattle.summary.specs.Summaries.{appears, passing, kind_count};
+ghost use Rattle.std.specs.Prelude.{◌≡◌, ℕ, ◌<◌, true, false, count_by, slice_index_or, slice_set};
+ghost use Rattle.records.specs.Bytes.{rec_at};
+ghost use Rattle.summary.specs.Summaries.{appears, kind_count};
 
-use records::Opened;
+use records::{Opened, Place};
 
-// Marks the kind numbers of the records.
-fn mark_kinds(s: Opened, seen: &mut [bool])
-    requires long { length seen.old ≡ 256 }
-    requires none { (k : ℕ) → k < 256 → slice_index_or seen.old k false ≡ false }
-    ensures { (k : ℕ) → k < 256 → slice_index_or seen.new k false ≡ appears s.entry.file.now s.entry.n k }
+// Marks the kind number of a record: it is a byte.
+fn mark_kind(place: Place, seen: &mut [bool; 256])
+    ensures { seen.new ≡ slice_set seen.old (rec_at place.entry.over.file.now place.entry.r).kind true }
 {
-    for r in 0..s.n {
-        seen[s.fields(r + 1).kind as usize] = true;
-    }
+    seen[usize::from(place.fields().kind)] = true;
 }
 
-fn count_marks(seen: &[bool]) -> u16
-    requires { length seen.now ≡ 256 }
-    ensures { result ≡ passing (λ k. get_or seen.now k false) (length seen.now) }
+// Which kind numbers the records have.
+fn kinds_seen(s: Opened) -> [bool; 256]
+    ensures { (k : ℕ) → k < 256 → slice_index_or result k false ≡ appears s.entry.file.now s.entry.n k }
 {
-    let mut count = 0;
-    for mark in seen {
-        if *mark {
-            count += 1;
-        }
+    let mut seen = [false; 256];
+    for place in s.places(1) {
+        mark_kind(place, &mut seen);
     }
-    count
+    seen
+}
+
+fn count_marks(seen: &[bool; 256]) -> u16
+    ensures { result ≡ count_by (λ mark. mark) seen.now }
+{
+    seen.iter().filter(|mark| **mark).count() as u16
 }
 
 pub fn count_kinds(s: Opened) -> u16
     ensures { result ≡ kind_count s.entry.file.now }
 {
-    let mut seen = [false; 256];
-    mark_kinds(s, &mut seen);
-    count_marks(&seen)
+    count_marks(&kinds_seen(s))
 }

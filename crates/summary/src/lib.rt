@@ -8,12 +8,12 @@ mod deepest;
 mod kinds;
 mod line;
 
-use deepest::deepest_place;
+use deepest::deepest_level;
 use kinds::count_kinds;
 pub use line::summary_line;
 use script::Script;
 
-#[derive(Clone, Copy)]
+#[derive(Clone, Copy, Debug, PartialEq, Eq)]
 pub struct Summary {
     pub records: u16,
     // how many different kind numbers the records have
@@ -28,12 +28,12 @@ pub struct Summary {
 pub fn summarize(s: Script) -> Summary
     ensures { Summarizes s.entry.over.file.now result }
 {
-    let place = deepest_place(s);
+    let level = deepest_level(s);
     Summary {
         records: s.over.n,
         kinds: count_kinds(s.over),
-        deepest: place.at,
-        depth: place.depth,
+        deepest: level.at,
+        depth: level.depth,
         text: s.over.t,
     }
 }

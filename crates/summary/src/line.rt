@@ -1,13 +1,12 @@
-// A summary as one line of text.
+// A summary as one line of text. (By `write!` it could fail, and its contract does not say when.)
 ghost use Rattle.std.specs.Prelude.{◌≡◌};
-ghost use Rattle.report.specs.Lines.{written};
 ghost use Rattle.summary.specs.Summaries.{summary_line};
 
 use crate::Summary;
 use report::Line;
 
 pub fn summary_line(s: Summary) -> Line
-    ensures { written result ≡ summary_line s }
+    ensures { result ≡ summary_line s }
 {
     let mut line = Line::new();
     line.text(b"records ");

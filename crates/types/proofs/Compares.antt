@@ -1,11 +1,15 @@
--- What can be compared, one level of a type at a time and one field after another.
-use Rattle.std.proofs.Common.{◌≡◌, ℕ, zero, suc, ◌+◌, ◌-◌, ◌<◌, ◌≤◌, Bool, true, false, ◌&&◌, List, length, get_or, drop, sym, refl, ap, ◌∙◌, not-suc-le-zero}
+-- What can be compared, one level of a type at a time.
+use Rattle.std.proofs.Common.{◌≡◌, ℕ, zero, suc, ◌-◌, ◌<◌, Bool, ◌&&◌, List, [], ◌∷◌, sym, refl, ap, ◌∙◌, not-suc-le-zero}
 use native.Mathlib.Numerals.{unary_clauses}
-use Rattle.std.proofs.lemmas.List.{at_drop_more, at_drop_all}
+use Rattle.std.specs.List.{list_all}
 use Rattle.types.specs.declared.Entry.{Entry}
 use Rattle.types.specs.declared.Shape.{Shape}
 use Rattle.types.specs.declared.Shape.TheVariants.{Int, Bool as BoolShape, Rune, Text, Slice, Struct, Other}
 use Rattle.types.specs.Table.{shape_of, fields_of, base_shape, all_fields, comparable_shape, comparable_by}
+
+listed : (p : ℕ → Bool) (es : List Entry) → all_fields p es ≡ list_all (λ e. p e.of) es
+listed p [] = refl
+listed p (e ∷ es) = ap (λ b. p e.of && b) (listed p es)
 
 module _ (table : List Entry) (most t : ℕ) (s : Shape) (h : 0 < most) (is : s ≡ shape_of table t) where
   abbrev part : ℕ → Bool
@@ -18,8 +22,8 @@ module _ (table : List Entry) (most t : ℕ) (s : Shape) (h : 0 < most) (is : s 
       down zero l = absurd (not-suc-le-zero l)
       down (suc m) l = simp unary_clauses
 
-  pub of_struct : (n : ℕ) (es : List Entry) → s ≡ Struct n → es ≡ fields_of table t n → comparable_by table most t ≡ all_fields part es
-  of_struct n es e f = level ∙ (ap (comparable_shape part table t) e ∙ ap (all_fields part) (sym f))
+  pub of_struct : (n : ℕ) (es : List Entry) → s ≡ Struct n → es ≡ fields_of table t n → comparable_by table most t ≡ list_all (λ e. part e.of) es
+  of_struct n es e f = level ∙ (ap (comparable_shape part table t) e ∙ (ap (all_fields part) (sym f) ∙ listed part es))
 
   pub of_base : ((n : ℕ) → s ≡ Struct n → ⊥) → base_shape s ≡ comparable_by table most t
   of_base none = sym (level ∙ plain s none)
@@ -32,13 +36,3 @@ module _ (table : List Entry) (most t : ℕ) (s : Shape) (h : 0 < most) (is : s 
       plain (Slice of) none = refl
       plain (Struct n) none = absurd (none n refl)
       plain Other none = refl
-
-module _ (p : ℕ → Bool) (es : List Entry) (i : ℕ) where
-  pub field_yes : (d : Entry) → i < length es → true ≡ p (get_or es i d).of → all_fields p (drop i es) ≡ all_fields p (drop (i + 1) es)
-  field_yes d h e = at_drop_more (all_fields p) es i d h ∙ ap (λ (b : Bool). b && all_fields p (drop (i + 1) es)) (sym e)
-
-  pub field_no : (d : Entry) → i < length es → false ≡ p (get_or es i d).of → all_fields p (drop i es) ≡ false
-  field_no d h e = at_drop_more (all_fields p) es i d h ∙ ap (λ (b : Bool). b && all_fields p (drop (i + 1) es)) (sym e)
-
-  pub fields_end : length es ≤ i → all_fields p (drop i es) ≡ true
-  fields_end h = at_drop_all (all_fields p) es i h

@@ -1,24 +1,22 @@
--- The search of a slice, turn by turn.
-use Rattle.std.proofs.Common.{◌≡◌, ℕ, ◌+◌, ◌<◌, ◌≤◌, Bool, true, false, cond, ◌&&◌, eqb, List, length, get_or, drop, Some, None, Option, refl, ap, ◌∙◌, add-one}
-use Rattle.std.proofs.lemmas.List.{at_drop_more, at_drop_all}
+-- The search of a slice: its number is one more than its place.
+use Rattle.std.proofs.Common.{◌≡◌, ℕ, ◌+◌, Bool, true, false, cond, ◌&&◌, eqb, List, [], ◌∷◌, Some, Option, refl, ap, sym, ◌∙◌, add-one}
+use Rattle.std.specs.Option.{option_map}
+use Rattle.std.specs.List.{position, position_from}
+use Rattle.std.proofs.lemmas.Iterator.Adapters.{position_from-zero}
 use Rattle.types.specs.declared.Entry.{Entry}
-use Rattle.types.specs.Table.{slice_kind, find_slice}
+use Rattle.types.specs.Table.{is_slice, find_slice}
 
-module _ (xs : List Entry) (of i : ℕ) where
+module _ (of : ℕ) where
   abbrev hit : Entry → Bool
-  hit e = eqb e.kind slice_kind && eqb e.of of
+  hit e = is_slice e.kind && eqb e.of of
 
-  abbrev rest : Option ℕ
-  rest = find_slice of (i + 1 + 1) (drop (i + 1) xs)
+  next : (b : Bool) (i : ℕ) (o p : Option ℕ) → o ≡ option_map (λ k. k + 1) p → cond b (Some (i + 1)) o ≡ option_map (λ k. k + 1) (cond b (Some i) p)
+  next true i o p e = refl
+  next false i o p e = e
 
-  turn : (d : Entry) → i < length xs → find_slice of (i + 1) (drop i xs) ≡ cond (hit (get_or xs i d)) (Some (i + 1)) rest
-  turn d h = at_drop_more (find_slice of (i + 1)) xs i d h ∙ rw (add-one (i + 1)) refl
+  from : (i : ℕ) (xs : List Entry) → find_slice of (i + 1) xs ≡ option_map (λ k. k + 1) (position_from hit i xs)
+  from i [] = refl
+  from i (e ∷ es) = rw (← add-one (i + 1)) (next (hit e) i _ _ (from (i + 1) es))
 
-  pub slice_hit : (d : Entry) → i < length xs → hit (get_or xs i d) ≡ true → find_slice of (i + 1) (drop i xs) ≡ Some (i + 1)
-  slice_hit d h s = turn d h ∙ ap (λ (b : Bool). cond b (Some (i + 1)) rest) s
-
-  pub slice_miss : (d : Entry) → i < length xs → hit (get_or xs i d) ≡ false → find_slice of (i + 1) (drop i xs) ≡ rest
-  slice_miss d h s = turn d h ∙ ap (λ (b : Bool). cond b (Some (i + 1)) rest) s
-
-  pub slice_end : length xs ≤ i → find_slice of (i + 1) (drop i xs) ≡ None
-  slice_end h = at_drop_all (find_slice of (i + 1)) xs i h
+  pub numbered : (xs : List Entry) → find_slice of 1 xs ≡ option_map (λ k. k + 1) (position (λ e. is_slice e.kind && eqb e.of of) xs)
+  numbered xs = from 0 xs ∙ sym (ap (option_map (λ k. k + 1)) (position_from-zero hit xs))

@@ -1,2 +1,2 @@
 mod Compares
-mod Finds
+pub mod Finds

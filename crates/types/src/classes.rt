@@ -8,28 +8,19 @@ impl Shape {
     pub fn is_numeric(self) -> bool
         ensures { result ≡ numeric_shape self }
     {
-        match self {
-            Shape::Int | Shape::Rune => true,
-            _ => false,
-        }
+        matches!(self, Shape::Int | Shape::Rune)
     }
 
     pub fn is_bool(self) -> bool
         ensures { result ≡ is_bool self }
     {
-        match self {
-            Shape::Bool => true,
-            _ => false,
-        }
+        self == Shape::Bool
     }
 
     pub fn is_text(self) -> bool
         ensures { result ≡ is_text self }
     {
-        match self {
-            Shape::Text => true,
-            _ => false,
-        }
+        self == Shape::Text
     }
 
     pub fn is_ordered(self) -> bool

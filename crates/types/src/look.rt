@@ -1,42 +1,35 @@
-// What the type table says of a type's number.
+// What the type table says of a type's number. A table is a lent slice of entries; a struct round it would have the same
+// functions under one more name.
 ghost use Rattle.std.specs.Prelude.{◌≡◌};
 ghost use Rattle.types.specs.Table.{entry_at, cells_of, shape_of};
 
-use crate::{Entry, Shape};
+use crate::kind::{EntryKind, Home};
+use crate::{Entry, Note, Shape};
 
-// What stands where there is no entry.
+// What stands where there is no entry, so that every number has one.
 pub const NO_ENTRY: Entry = Entry {
-    kind: 0,
+    kind: EntryKind::Nothing,
     cells: 0,
     of: 0,
     at: 0,
     len: 0,
 };
 
-// The kinds of entries.
-pub const INT: u8 = 1;
-
-pub const BOOL: u8 = 2;
-
-pub const RUNE: u8 = 3;
-
-pub const STRING: u8 = 4;
-
-pub const SLICE: u8 = 5;
-
-pub const STRUCT: u8 = 6;
-
-pub const FIELD: u8 = 7;
+// A note that says nothing.
+pub const BLANK: Note = Note {
+    ty: 0,
+    home: Home::Nowhere,
+    place: 0,
+};
 
 // The entry of a type's number, or NO_ENTRY where there is none.
 pub fn entry_at(table: &[Entry], t: u16) -> Entry
     ensures { result ≡ entry_at table.now t }
 {
-    if t == 0 {
-        return NO_ENTRY;
-    }
-    let i = t as usize - 1;
-    if i < table.len() { table[i] } else { NO_ENTRY }
+    t.checked_sub(1)
+        .and_then(|i| table.get(i as usize))
+        .copied()
+        .unwrap_or(NO_ENTRY)
 }
 
 // How many cells a value of the type takes.
@@ -52,12 +45,12 @@ pub fn shape_of(table: &[Entry], t: u16) -> Shape
 {
     let entry = entry_at(table, t);
     match entry.kind {
-        INT => Shape::Int,
-        BOOL => Shape::Bool,
-        RUNE => Shape::Rune,
-        STRING => Shape::Text,
-        SLICE => Shape::Slice(entry.of),
-        STRUCT => Shape::Struct(entry.of),
-        _ => Shape::Other,
+        EntryKind::Int => Shape::Int,
+        EntryKind::Bool => Shape::Bool,
+        EntryKind::Rune => Shape::Rune,
+        EntryKind::Text => Shape::Text,
+        EntryKind::Slice => Shape::Slice(entry.of),
+        EntryKind::Struct => Shape::Struct(entry.of),
+        EntryKind::Nothing | EntryKind::Field | EntryKind::Other(_) => Shape::Other,
     }
 }

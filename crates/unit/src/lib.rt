@@ -2,31 +2,24 @@
 #![tactic(auto)]
 
 ghost use Rattle.std.specs.Prelude.{◌≡◌};
-ghost use Rattle.report.specs.Lines.{written};
 ghost use Rattle.unit.specs.Answers.{CheckVerdict, Told};
 
 use faults::CheckFault;
 use report::{Line, verdict_line};
 use script::{Lengths, read};
 
-// The reader's fault goes up whole.
-fn passed_up(file: &[u8], lent: Lengths) -> Result<(), CheckFault>
+// Whether a file can be read with these lengths lent, or the first rule of the file that it breaks: the reader's fault,
+// whole.
+pub fn readable(file: &[u8], lent: Lengths) -> Result<(), CheckFault>
     ensures { CheckVerdict file.now lent result }
 {
     read(file, lent)?;
     Ok(())
 }
 
-// Whether a file can be read with these lengths lent, or the first rule of the file that it breaks.
-pub fn readable(file: &[u8], lent: Lengths) -> Result<(), CheckFault>
-    ensures { CheckVerdict file.now lent result }
-{
-    passed_up(file, lent)
-}
-
 // The verdict on a file as the line that a program writes.
 pub fn told(file: &[u8], lent: Lengths) -> Line
-    ensures { Told file.now lent (written result) }
+    ensures { Told file.now lent result }
 {
     verdict_line(readable(file, lent))
 }

@@ -1,10 +1,8 @@
 use Rattle.std.proofs.Common.{◌≡◌}
-use Rattle.records.specs.Trees.{kind_tree, above}
-use Rattle.rules.specs.Children.{each}
+use Rattle.rules.specs.Children.{chained, each}
 use Rattle.rules.proofs.children.all_of.Given as goal
 
-abbrev pub invariant-loop-shape : goal.invariant-loop-shape
-invariant-loop-shape l = each l.sort (kind_tree l.s.file.now l.first) ≡ each l.sort (kind_tree l.s.file.now l.at)
-
-abbrev pub decreases-loop-shape : goal.decreases-loop-shape
-decreases-loop-shape l = above l.at
+abbrev pub invariant-loop-child : goal.invariant-loop-child
+invariant-loop-child l =
+    (l.child-iterator.over ≡ l.fn.chain.over) ×
+    (each l.sort (chained l.fn.chain) ≡ each l.sort (chained l.child-iterator))

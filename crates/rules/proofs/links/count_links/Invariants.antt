@@ -1,6 +1,8 @@
-use Rattle.std.proofs.Common.{◌≡◌, ℕ, ◌<◌, min, get_or}
-use Rattle.rules.specs.Links.{links_to}
+use Rattle.records.proofs.Passing.{Passing, behind}
+use Rattle.rules.proofs.Counts.{Counts}
 use Rattle.rules.proofs.links.count_links.Given as goal
 
-abbrev pub invariant-loop-r : goal.invariant-loop-r
-invariant-loop-r l = (k : ℕ) → k < 2048 → get_or l.counts k 0 ≡ min 255 (links_to l.s.file.now l.r k)
+abbrev pub invariant-loop-place : goal.invariant-loop-place
+invariant-loop-place l =
+    Passing l.s.over l.place-iterator ×
+    Counts l.s.over.file.now (behind l.place-iterator) l.counts

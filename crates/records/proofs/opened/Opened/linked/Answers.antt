@@ -1,18 +1,22 @@
-use Rattle.std.proofs.Common.{sym, ◌∙◌, arith}
-use Rattle.records.proofs.Views.{linked_out, linked_is, whole_true}
+use Rattle.std.proofs.Common.{◌≡◌, ◌∙◌, sym}
+use Rattle.records.specs.Bytes.{rec_at}
+use Rattle.records.proofs.Passing.{found, fields_of}
+use Rattle.records.proofs.Views.{linked_out, linked_is, linked_rec, whole_true}
 use Rattle.records.proofs.opened.Opened.linked.Goals as goal
 
-pub returns-then-r-eq0 : goal.returns-then-r-eq0
-returns-then-r-eq0 c = linked_out c.args.self.file.now c.args.self.n c.args.r c.args.self.records c.then-r-eq0.either
-
-pub returns-then-links_up : goal.returns-then-links_up
-returns-then-links_up c =
+pub returns-in_err-place : goal.returns-in_err-place
+returns-in_err-place c =
     let s = c.args.self in
-    let w = whole_true s.file.now s.n s.t s.records s.text s.some s.few s.brief s.fills in
-    (linked_is s.file.now s.n c.args.r c.fields-rec.result s.records w (omega arith) (omega arith) c.fields-rec.ensures ∙ sym c.if-links_up.ensures, c.fields-rec.ensures)
+    rw c.from_residual.ensures (linked_out s.file.now s.n c.args.r s.records c.in_err-place.ensures)
 
-pub returns-else-links_up : goal.returns-else-links_up
-returns-else-links_up c =
+pub returns : goal.returns
+returns c =
     let s = c.args.self in
+    let r = c.args.r in
+    let p = c.in_ok-place.field-0 in
+    let a = c.in_ok-place.ensures in
+    let rec = c.fields-rec.result in
     let w = whole_true s.file.now s.n s.t s.records s.text s.some s.few s.brief s.fills in
-    linked_is s.file.now s.n c.args.r c.fields-rec.result s.records w (omega arith) (omega arith) c.fields-rec.ensures ∙ sym c.if-links_up.ensures
+    let h = found s r p a.0 a.1 in
+    let e : rec ≡ rec_at s.file.now r = fields_of s r p rec a.0 a.1 c.fields-rec.ensures in
+    linked_rec s.file.now r rec _ _ (linked_is s.file.now s.n r rec s.records w h.from h.within e ∙ sym c.links_up.ensures) e c.then_some.ensures

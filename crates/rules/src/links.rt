@@ -42,7 +42,7 @@ fn count_link(counts: &mut [u8; RECORD_SLOTS], k: u16)
     counts[k] = counts[k].saturating_add(1);
 }
 
-// How many links lead to each record.
+// How many links lead to each record. A slot for each record, since nothing is allocated.
 fn count_links(s: Linked) -> [u8; RECORD_SLOTS]
     ensures { (k : ℕ) → k < 2048 → slice_index result k ≡ min 255 (links_to s.entry.over.file.now s.entry.over.n k) }
 {

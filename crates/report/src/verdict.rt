@@ -6,7 +6,7 @@ use crate::line::Line;
 use faults::{CheckFault, Named};
 
 pub fn verdict_line(answer: Result<(), CheckFault>) -> Line
-    ensures { result ≡ verdict_line answer }
+    ensures { result.bytes ≡ verdict_line answer }
 {
     let mut line = Line::new();
     match answer {

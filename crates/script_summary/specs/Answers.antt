@@ -1,5 +1,6 @@
 -- What the program answers to a file.
 use Rattle.std.specs.Prelude.{◌≡◌, ℕ, true, List, Some, None, Ok, Err, Option, Result}
+use Rattle.std.specs.Option.{option_map}
 use Rattle.faults.specs.declared.FileFault.{FileFault}
 use Rattle.faults.specs.declared.CheckFault.TheVariants.{File}
 use Rattle.report.specs.Lines.{verdict_line}
@@ -30,5 +31,5 @@ summary_text (Err e) = None
 pub record Answers (f : List ℕ) (a : Answer) : Type 0 where
   pub look : Result Summary FileFault
   pub looked : Looked f look
-  pub verdict_is : a.verdict ≡ verdict_text look
-  pub summary_is : a.summary ≡ summary_text look
+  pub verdict_is : a.verdict.bytes ≡ verdict_text look
+  pub summary_is : option_map (λ line. line.bytes) a.summary ≡ summary_text look

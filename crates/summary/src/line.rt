@@ -6,7 +6,7 @@ use crate::Summary;
 use report::Line;
 
 pub fn summary_line(s: Summary) -> Line
-    ensures { result ≡ summary_line s }
+    ensures { result.bytes ≡ summary_line s }
 {
     let mut line = Line::new();
     line.text(b"records ");

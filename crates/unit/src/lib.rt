@@ -19,7 +19,7 @@ pub fn readable(file: &[u8], lent: Lengths) -> Result<(), CheckFault>
 
 // The verdict on a file as the line that a program writes.
 pub fn told(file: &[u8], lent: Lengths) -> Line
-    ensures { Told file.now lent result }
+    ensures { Told file.now lent result.bytes }
 {
     verdict_line(readable(file, lent))
 }

@@ -1,11 +1,11 @@
 -- What the slots stand for, as the list and its mark change.
-use Rattle.std.proofs.Common.{◌≡◌, ℕ, zero, suc, ◌+◌, ◌<◌, ◌≤◌, true, false, ltb, leb, List, [], ◌∷◌, ◌++◌, length, get_or, set, sym, refl, ap, ◌∙◌, inl, inr, add-one, arith, length-append}
+use Rattle.std.proofs.Common.{◌≡◌, ℕ, zero, suc, ◌+◌, ◌<◌, ◌≤◌, true, false, ltb, leb, List, [], ◌∷◌, ◌++◌, length, get_or, set, sym, refl, ap, ◌∙◌, inl, inr, add-one, arith, length-append, length-set}
 use Rattle.std.proofs.lemmas.List.{get_or-set_same, get_or-set_other}
 use Rattle.std.proofs.lemmas.Bool.{cases_eq}
 use Rattle.std.proofs.lemmas.Bool.Decides.{nat_tests}
 use Rattle.names.specs.declared.name.Mark.{Mark}
 use Rattle.names.specs.declared.name.Name.{Name}
-use Rattle.names.specs.Scopes.{Binding, enter_at, count, most_names, most_slots, binding_of, no_name, bindings, env_of, opened, Sound, Frame}
+use Rattle.names.specs.Scopes.{Binding, enter_at, count, most_names, most_slots, join, word_of, binding_of, no_name, bindings, env_of, opened, moved, Sound, Frame}
 
 at_most : (a b : ℕ) → a ≤ b → leb a b ≡ true
 at_most a b h = grind (arith, nat_tests)
@@ -90,6 +90,26 @@ frame_then names names' names'' m m' m'' one two =
 
 pub frame_left : (names names' : List Name) (m m' back : Mark) (p : ℕ) → back ≡ m → Frame names (opened p m) names' m' → Frame names m names' back
 frame_left names names' m m' back p e frame = rw e (record { top = omega arith; floor = refl; below = frame.below })
+
+-- a name that joins
+module _ (names : List Name) (m : Mark) (b : Name) (cells : ℕ) (names' : List Name) (m' : Mark) (written : names' ≡ set names m.top b) (next : m' ≡ moved cells m) where
+  below : (k : ℕ) → k < m.top → get_or names' k no_name ≡ get_or names k no_name
+  below k l = rw written (get_or-set_other names m.top k b no_name (omega arith))
+
+  pub frame_joined : Frame names m names' m'
+  frame_joined = rw next (record { top = omega arith; floor = refl; below = below })
+
+  module _ (sound : Sound names m) (room : m.top < most_slots) where
+    pub sound_joined : Sound names' m'
+    sound_joined = rw (written, next) (record { slots = simp length-set sound.slots; few = omega arith; floor = omega (arith, sound.floor) })
+
+    pub joined : (f : List ℕ) → env_of f names' m' ≡ join (word_of f b) b.means cells (env_of f names m)
+    joined f =
+        let last : get_or names' m.top no_name ≡ b = rw written (get_or-set_same names m.top b no_name (omega (arith, sound.slots))) in
+        let more = bindings_more f names' m.floor m.top sound.floor in
+        let here = bindings_same f names names' m.floor m.top below in
+        let outer = bindings_same f names names' 0 m.floor (λ k k<. below k (omega (arith, sound.floor))) in
+        rw (next, add-one, more, last, here, outer)
 
 -- a slot that is written after those in use
 module _ (f : List ℕ) (names : List Name) (lo : ℕ) where

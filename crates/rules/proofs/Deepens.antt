@@ -24,6 +24,9 @@ Depths f r ds = (k : ℕ) → k < 2048 → get_or ds k 0 ≡ depth_by f r k
 pub depths_start : (f : List ℕ) → Depths f 0 (set (replicate 2048 0) 1 1)
 depths_start f k h = start_at k h (cases_eq k 1)
 
+pub passed_long : (f : List ℕ) (r : ℕ) (ds : List ℕ) → length (passed f r ds) ≡ length ds
+passed_long f r ds = length-set (deepened ds (rec_at f r).first (get_or ds r 0 + 1)) (rec_at f r).next _ ∙ length-set ds (rec_at f r).first _
+
 pub depths_more : (f ds : List ℕ) (r : ℕ) → r + 1 < 2048 → length ds ≡ 2048 → (rec_at f (r + 1)).first < 2048 → (rec_at f (r + 1)).next < 2048 → Depths f r ds → Depths f (r + 1) (passed f (r + 1) ds)
 depths_more f ds r lt long hf hn inv k hk =
     let D : ℕ = depth_by f r (suc r) in

@@ -1,9 +1,10 @@
-// What a function knows of a line that it is handed: no more bytes than there is room for.
+// What a function knows of a line that it is handed: it has no more bytes than there is room for. Nothing calls this;
+// it shows that no clause has to say so.
 ghost use Rattle.std.specs.Prelude.{◌≡◌};
 
 use crate::line::Line;
 
-// Nothing more fits for certain.
+// No byte more is sure to fit.
 fn add_nothing(line: &mut Line)
     ensures { line.new.bytes ≡ line.old.bytes }
 {

@@ -57,7 +57,7 @@ impl Line {
         ensures size { length self.new.bytes ≡ length self.old.bytes + length (decimal n) }
         ensures most { length self.new.bytes ≤ length self.old.bytes + number_size }
     {
-        // A short number, as most are, takes longer by way of a buffer than its digits do.
+        // A short number, as a rule's is, takes longer by way of a buffer than its digits do.
         if n < 10 {
             self.text(&[b'0' + n as u8]);
         } else if n < 100 {

@@ -91,6 +91,18 @@ frame_then names names' names'' m m' m'' one two =
 pub frame_left : (names names' : List Name) (m m' back : Mark) (p : ℕ) → back ≡ m → Frame names (opened p m) names' m' → Frame names m names' back
 frame_left names names' m m' back p e frame = rw e (record { top = omega arith; floor = refl; below = frame.below })
 
+-- a slot that is written after those in use
+module _ (f : List ℕ) (names : List Name) (lo : ℕ) where
+  pub written_after : (hi at : ℕ) (b : Name) → hi ≤ at → bindings f (set names at b) lo hi ≡ bindings f names lo hi
+  written_after hi at b h = bindings_same f names (set names at b) lo hi (λ k l. get_or-set_other names at k b no_name (omega arith))
+
+  pub written_next : (top : ℕ) (b : Name) → lo ≤ top → top < length names → bindings f (set names top b) lo (top + 1) ≡ binding_of f b ∷ bindings f names lo top
+  written_next top b l h =
+      let more = bindings_more f (set names top b) lo top l in
+      let last = get_or-set_same names top b no_name h in
+      let before = written_after top top b (omega arith) in
+      rw (add-one, more, last, before)
+
 -- a name that joins
 module _ (names : List Name) (m : Mark) (b : Name) (cells : ℕ) (names' : List Name) (m' : Mark) (written : names' ≡ set names m.top b) (next : m' ≡ moved cells m) where
   below : (k : ℕ) → k < m.top → get_or names' k no_name ≡ get_or names k no_name
@@ -105,20 +117,6 @@ module _ (names : List Name) (m : Mark) (b : Name) (cells : ℕ) (names' : List 
 
     pub joined : (f : List ℕ) → env_of f names' m' ≡ join (word_of f b) b.means cells (env_of f names m)
     joined f =
-        let last : get_or names' m.top no_name ≡ b = rw written (get_or-set_same names m.top b no_name (omega (arith, sound.slots))) in
-        let more = bindings_more f names' m.floor m.top sound.floor in
-        let here = bindings_same f names names' m.floor m.top below in
-        let outer = bindings_same f names names' 0 m.floor (λ k k<. below k (omega (arith, sound.floor))) in
-        rw (next, add-one, more, last, here, outer)
-
--- a slot that is written after those in use
-module _ (f : List ℕ) (names : List Name) (lo : ℕ) where
-  pub written_after : (hi at : ℕ) (b : Name) → hi ≤ at → bindings f (set names at b) lo hi ≡ bindings f names lo hi
-  written_after hi at b h = bindings_same f names (set names at b) lo hi (λ k l. get_or-set_other names at k b no_name (omega arith))
-
-  pub written_next : (top : ℕ) (b : Name) → lo ≤ top → top < length names → bindings f (set names top b) lo (top + 1) ≡ binding_of f b ∷ bindings f names lo top
-  written_next top b l h =
-      let more = bindings_more f (set names top b) lo top l in
-      let last = get_or-set_same names top b no_name h in
-      let before = written_after top top b (omega arith) in
-      rw (add-one, more, last, before)
+        let here = written_next f names m.floor m.top b sound.floor (omega (arith, sound.slots)) in
+        let outer = written_after f names 0 m.floor m.top b sound.floor in
+        rw (written, next, here, outer)

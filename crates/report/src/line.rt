@@ -50,14 +50,14 @@ impl Line {
     }
 
     // In decimal, with no leading zeros, after what the line has. There must be room for the longest number.
-    #[tactic(auto, using(crate::proofs::Digits::one, crate::proofs::Digits::two))]
+    #[tactic(auto, using(std::proofs::lemmas::Fmt::decimal_digit, std::proofs::lemmas::Fmt::decimal_step))]
     pub fn number(&mut self, n: u64)
         requires { length self.old.bytes + number_size ≤ line_size }
         ensures text { self.new.bytes ≡ self.old.bytes ++ decimal n }
         ensures size { length self.new.bytes ≡ length self.old.bytes + length (decimal n) }
         ensures most { length self.new.bytes ≤ length self.old.bytes + number_size }
     {
-        // A short number, as a rule's is, takes longer by way of a buffer than its digits do.
+        // A short number, as that of a rule is, takes longer by way of a buffer than its digits do.
         if n < 10 {
             self.text(&[b'0' + n as u8]);
         } else if n < 100 {
